@@ -1,0 +1,13 @@
+//! The CBOR profile of the bundle protocol's encoding (RFC 8949, deterministic form), and the small types that every
+//! crate above shares: byte strings, lists, want of memory, and what takes bytes piece by piece.
+#![tactic(auto)]
+
+mod bytes;
+mod feed;
+mod list;
+mod memory;
+
+pub use bytes::Bytes;
+pub use feed::{Feed, Gather};
+pub use list::List;
+pub use memory::NoMemory;
