@@ -1,2 +1,4 @@
 pub mod Gathered
 pub mod Overwritten
+pub mod Head
+pub mod HeadAnswer

@@ -4,10 +4,13 @@
 
 mod bytes;
 mod feed;
+mod head;
+pub mod laws;
 mod list;
 mod memory;
 
 pub use bytes::Bytes;
 pub use feed::{Feed, Gather};
+pub use head::{Head, HeadBytes, HeadRead, head_at, head_bytes};
 pub use list::List;
 pub use memory::NoMemory;
