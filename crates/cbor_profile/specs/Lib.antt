@@ -2,3 +2,4 @@ pub mod Gathered
 pub mod Overwritten
 pub mod Head
 pub mod HeadAnswer
+pub mod Put

@@ -8,9 +8,11 @@ mod head;
 pub mod laws;
 mod list;
 mod memory;
+mod put;
 
 pub use bytes::Bytes;
 pub use feed::{Feed, Gather};
 pub use head::{Head, HeadBytes, HeadRead, head_at, head_bytes};
 pub use list::List;
 pub use memory::NoMemory;
+pub use put::{put_array, put_bool, put_bytes, put_int, put_text, put_uint};
