@@ -1,2 +1,4 @@
 pub mod Wide
 pub mod Heads
+pub mod Items
+pub mod ItemGrammar

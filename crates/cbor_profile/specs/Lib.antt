@@ -3,3 +3,5 @@ pub mod Overwritten
 pub mod Head
 pub mod HeadAnswer
 pub mod Put
+pub mod Item
+pub mod ItemAnswer

@@ -1,6 +1,6 @@
 //! What takes bytes piece by piece, and stands for all of them together.
 
-ghost use Rattle.std.specs.Prelude.{◌≡◌, ◌+◌, ◌-◌, ◌≤◌, ◌^◌, ◌++◌, ℕ, [], List, length, IfOk};
+ghost use Rattle.std.specs.Prelude.{◌≡◌, ◌+◌, ◌-◌, ◌≤◌, ◌^◌, ◌++◌, ℕ, [], List, length, IfOk, IsErr, IsTrue, ◌↔◌};
 ghost use Rattle.cbor_profile.specs.Gathered.{Gathered, Gathers};
 ghost use Rattle.std.proofs.Common.{rules};
 
@@ -62,7 +62,8 @@ impl Gather {
 
     /// The bytes fed, or want of memory where a feed found none for its piece.
     pub fn finish(self) -> Result<Bytes, NoMemory>
-        ensures { IfOk result (λ bytes. (fed : List ℕ) → Gathers self fed → bytes ≡ fed) }
+        ensures ok { IfOk result (λ bytes. (fed : List ℕ) → Gathers self fed → bytes ≡ fed) }
+        ensures lost { IsErr result ↔ IsTrue self.lost }
     {
         if self.lost {
             return Err(NoMemory);

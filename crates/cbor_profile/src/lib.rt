@@ -5,6 +5,7 @@
 mod bytes;
 mod feed;
 mod head;
+mod item;
 pub mod laws;
 mod list;
 mod memory;
@@ -13,6 +14,10 @@ mod put;
 pub use bytes::Bytes;
 pub use feed::{Feed, Gather};
 pub use head::{Head, HeadBytes, HeadRead, head_at, head_bytes};
+pub use item::{ItemRead, item_at};
 pub use list::List;
 pub use memory::NoMemory;
 pub use put::{put_array, put_bool, put_bytes, put_int, put_text, put_uint};
+
+#[cfg(test)]
+mod tests;
