@@ -64,7 +64,6 @@ fn skip(len: u64, bytes: &[u8]) -> Result<&[u8], ItemFault>
 #[cycle(item)]
 #[tactic(auto, unfolding(crate::specs::Item::head_from))]
 fn item(levels: u8, bytes: &[u8]) -> Result<&[u8], ItemFault>
-    requires { levels ≤ 8 }
     ensures shorter { IfOk result (λ rest. length rest.now ≤ length bytes.now) }
     ensures exact { Gives (λ x. x.now) result (item_from levels bytes.now) }
 {
@@ -76,7 +75,6 @@ fn item(levels: u8, bytes: &[u8]) -> Result<&[u8], ItemFault>
 #[cycle(item)]
 #[tactic(auto, unfolding(crate::specs::Item::content_from))]
 fn content(levels: u8, head: Head, bytes: &[u8]) -> Result<&[u8], ItemFault>
-    requires { levels ≤ 8 }
     ensures shorter { IfOk result (λ rest. length rest.now ≤ length bytes.now) }
     ensures exact { Gives (λ x. x.now) result (content_from levels (following_head head.major) head.value bytes.now) }
 {
@@ -95,7 +93,6 @@ fn content(levels: u8, head: Head, bytes: &[u8]) -> Result<&[u8], ItemFault>
 /// What `count` items one after the other leave.
 #[cycle(item)]
 fn items(levels: u8, count: u64, bytes: &[u8]) -> Result<&[u8], ItemFault>
-    requires { levels ≤ 8 }
     ensures shorter { IfOk result (λ rest. length rest.now ≤ length bytes.now) }
     ensures exact { Gives (λ x. x.now) result (each_from (item_from levels) count bytes.now) }
 {
