@@ -1,7 +1,8 @@
 -- Pieces that are given or written one after the other.
-use Rattle.std.proofs.Common.{ℕ, ◌+◌, List, ◌++◌, take, drop, ap, sym, ◌∙◌, append_assoc}
+use Rattle.std.proofs.Common.{◌≡◌, ℕ, ◌+◌, List, ◌++◌, length, take, drop, ap, sym, ◌∙◌, append_assoc}
 use Rattle.std.specs.Prelude.{Option, Some, None, option_map}
-use Rattle.std.proofs.Math.Seq.{take-add}
+use Rattle.std.proofs.Math.Seq.{take-add, take-append_seam}
+use Rattle.std.proofs.lemmas.List.{drop-drop, take-append-drop}
 use Rattle.bp_outside.specs.Outside.{Taken, Appended}
 
 -- one piece is written, and then another
@@ -20,3 +21,9 @@ pub Taken-then : (a b c : Option (List ℕ)) (xs ys : List ℕ) → Taken a xs b
 Taken-then a b None xs ys first then = first ∙ ap (option_map (λ rest. xs ++ rest)) then
 Taken-then a b (Some rest) xs ys first then =
     first ∙ (ap (option_map (λ rest. xs ++ rest)) then ∙ ap (λ v. Some v) (sym (append_assoc xs ys rest)))
+
+-- what was left is what stands in front of the buffer, and then the rest
+pub given_parts : (bytes front back : List ℕ) (given n : ℕ) → length front ≡ n → front ≡ take n (drop given bytes) → drop given bytes ≡ take n (front ++ back) ++ drop (given + n) bytes
+given_parts bytes front back given n len e =
+    let whole : take n (front ++ back) ≡ front = rw (← len) (take-append_seam front back) in
+    rw (whole, e, ← drop-drop) (sym (take-append-drop n (drop given bytes)))

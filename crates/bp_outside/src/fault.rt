@@ -1,4 +1,7 @@
-//! How a device fails.
+//! How a device fails, and the count of its faults.
+
+ghost use Rattle.std.specs.Prelude.{◌≡◌, ◌≤◌};
+ghost use Rattle.bp_outside.specs.Memory.{counted};
 
 use std::error::Error;
 use std::fmt;
@@ -14,3 +17,27 @@ impl fmt::Display for Failed {
 }
 
 impl Error for Failed {}
+
+/// How many calls failed. It stands still at its last value.
+#[derive(Debug, Drop)]
+pub(crate) struct Faults {
+    pub(crate) count: u64,
+}
+
+impl Faults {
+    /// No call has failed so far.
+    pub(crate) fn new() -> Faults
+        ensures { result.count ≡ 0 }
+    {
+        Faults { count: 0 }
+    }
+
+    /// Counts one more fault.
+    pub(crate) fn rise(&mut self) -> Failed
+        ensures counts { self.new.count ≡ counted self.old.count }
+        ensures rises { self.old.count ≤ self.new.count }
+    {
+        self.count = self.count.saturating_add(1);
+        Failed
+    }
+}

@@ -2,12 +2,25 @@
 //! only where a count of faults rises, which no caller can raise.
 #![tactic(auto)]
 
+mod calls;
 mod fault;
+mod files;
+mod memory_shelf;
+mod memory_sink;
+mod memory_source;
+mod named_file;
+mod portion;
 mod shelf;
 mod sink;
 mod source;
+mod steady;
 
 pub use fault::Failed;
+pub use memory_shelf::MemoryShelf;
+pub use memory_sink::MemorySink;
+pub use memory_source::MemorySource;
+pub use named_file::NamedFile;
 pub use shelf::{FetchFault, Shelf};
 pub use sink::{Sink, write_all};
 pub use source::Source;
+pub use steady::{DropSink, SteadyShelf, SteadySource};

@@ -30,6 +30,16 @@ impl fmt::Display for FetchFault {
 
 impl Error for FetchFault {}
 
+impl From<NoMemory> for FetchFault {
+    ghost use Rattle.bp_outside.specs.declared.shelf.FetchFault.{FetchFault};
+
+    ghost from_gives = { λ _ fault. fault ≡ FetchFault.NoMemory };
+
+    fn from(_: NoMemory) -> FetchFault {
+        FetchFault::NoMemory
+    }
+}
+
 /// What files are fetched from by their names: the current folder, or a list of files in memory.
 pub trait Shelf {
     /// The content of each name that is held, where the shelf tells it. The files never change.
