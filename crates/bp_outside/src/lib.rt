@@ -5,10 +5,13 @@
 mod calls;
 mod fault;
 mod files;
+mod folder;
+mod input;
 mod memory_shelf;
 mod memory_sink;
 mod memory_source;
 mod named_file;
+mod output;
 mod portion;
 mod shelf;
 mod sink;
@@ -16,10 +19,13 @@ mod source;
 mod steady;
 
 pub use fault::Failed;
+pub use folder::FolderShelf;
+pub use input::InputSource;
 pub use memory_shelf::MemoryShelf;
 pub use memory_sink::MemorySink;
 pub use memory_source::MemorySource;
 pub use named_file::NamedFile;
+pub use output::OutputSink;
 pub use shelf::{FetchFault, Shelf};
 pub use sink::{Sink, write_all};
 pub use source::Source;
