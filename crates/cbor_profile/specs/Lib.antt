@@ -5,3 +5,4 @@ pub mod HeadAnswer
 pub mod Put
 pub mod Item
 pub mod ItemAnswer
+pub mod Token

@@ -1,9 +1,10 @@
 //! Laws over the definitions of this crate. Each is the contract of a function that does nothing.
 
-ghost use Rattle.std.specs.Prelude.{◌≡◌, ◌++◌, ℕ, List};
-ghost use Rattle.cbor_profile.specs.Head.{spelling, IsHead};
+ghost use Rattle.std.specs.Prelude.{◌≡◌, ◌<◌, ◌≤◌, ◌++◌, ℕ, List, length, take, slice_index};
+ghost use Rattle.cbor_profile.specs.Head.{spelling, IsHead, read_head};
 ghost use Rattle.cbor_profile.specs.Item.{IsItem, most_levels};
 ghost use Rattle.cbor_profile.specs.declared.head.Head.{Head};
+ghost use Rattle.cbor_profile.specs.declared.head.HeadRead.TheVariants.{Whole};
 
 /// A spelling determines its head, and no spelling is a proper prefix of another.
 pub fn heads_have_one_spelling()
@@ -13,4 +14,12 @@ pub fn heads_have_one_spelling()
 /// A byte list begins with at most one item.
 pub fn an_item_has_one_end()
     ensures { (a b x y : List ℕ) → IsItem most_levels a → IsItem most_levels b → a ++ x ≡ b ++ y → (a ≡ b) × (x ≡ y) }
+{}
+
+/// What is spelled as a head is read as that head, whatever follows it; and what is read as a head is spelled so, where
+/// the bytes are below 256.
+pub fn heads_are_read_as_spelled()
+    ensures again { (head : Head) (rest : List ℕ) → IsHead head → read_head (spelling head ++ rest) ≡ Whole head (length (spelling head)) }
+    ensures means { (bytes : List ℕ) (head : Head) (len : ℕ) → ((i : ℕ) → slice_index bytes i < 256) → read_head bytes ≡ Whole head len
+        → (len ≤ length bytes) × (take len bytes ≡ spelling head) × IsHead head }
 {}

@@ -3,6 +3,7 @@
 #![tactic(auto)]
 
 mod bytes;
+mod fault;
 mod feed;
 mod head;
 mod item;
@@ -12,12 +13,16 @@ mod memory;
 mod put;
 
 pub use bytes::Bytes;
+pub use fault::{Fault, Reason, SpellError, head_of_token};
 pub use feed::{Feed, Gather};
 pub use head::{Head, HeadBytes, HeadRead, head_at, head_bytes};
 pub use item::{ItemRead, item_at};
 pub use list::List;
 pub use memory::NoMemory;
 pub use put::{put_array, put_bool, put_bytes, put_int, put_text, put_uint};
+
+/// The most bytes that the spelling of a bundle has here: 16 MiB.
+pub const BUNDLE_LIMIT: u64 = 16_777_216;
 
 #[cfg(test)]
 mod tests;
