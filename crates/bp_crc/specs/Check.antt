@@ -19,7 +19,7 @@ unfoldable pub number_of : List Bool → ℕ
 number_of [] = 0
 number_of (b ∷ bs) = number_of bs * 2 + (if b then 1 else 0)
 
--- The divisor below its leading coefficient: x^12 + x^5 + 1 under x^16 (ITU-T X.25, section 2.2.7), and the terms of
+-- The divisor below its leading coefficient: x^12 + x^5 + 1 under x^16 (ITU-T X.25, section 2.2.7.4), and the terms of
 -- 0x1edc6f41 under x^32 (RFC 4960, appendix B). Each number has the lowest power as its least significant bit.
 unfoldable pub generator : ℕ → List Bool
 generator w = reverse (bits_of w (if w == 16 then 0x1021 else 0x1edc6f41))
@@ -30,7 +30,7 @@ message_bits [] = []
 message_bits (byte ∷ rest) = bits_of 8 byte ++ message_bits rest
 
 -- M x^w + L x^n, where M has the n bits of the bytes as its coefficients, and L is the sum of all powers below w (ITU-T
--- X.25, section 2.2.7)
+-- X.25, section 2.2.7.4)
 unfoldable pub dividend : ℕ → List ℕ → List Bool
 dividend w bytes =
     let message = message_bits bytes in

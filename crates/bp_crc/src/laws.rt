@@ -1,6 +1,6 @@
 //! What the definitions amount to, apart from any loop.
 
-ghost use Rattle.std.specs.Prelude.{◌≡◌, ◌<◌, ◌≤◌, ◌^◌, ℕ, Bool, not, List, map, length};
+ghost use Rattle.std.specs.Prelude.{◌≡◌, ◌<◌, ◌≤◌, ◌^◌, ℕ, Bool, not, codes, List, map, length};
 ghost use Rattle.bp_crc.specs.Check.{IsWidth, check, dividend, generator, number_of};
 ghost use Rattle.bp_crc.specs.Polynomial.{remainder};
 ghost use Rattle.bp_crc.specs.Division.{IsDivision};
@@ -22,4 +22,10 @@ pub fn check_is_the_complement()
 /// A check value has no more bits than its width.
 pub fn check_is_within()
     ensures { (w : ℕ) (bytes : List ℕ) → IsWidth w → check w bytes < 2 ^ w }
+{}
+
+/// The definition gives the published check values over the ASCII digits 1 to 9.
+pub fn check_of_the_digits()
+    ensures crc_16 { check 16 (codes "123456789") ≡ 0x906e }
+    ensures crc_32c { check 32 (codes "123456789") ≡ 0xe3069283 }
 {}

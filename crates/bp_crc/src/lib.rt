@@ -8,7 +8,7 @@ mod tables;
 mod value;
 
 pub use kind::CheckKind;
-pub use laws::{check_is_the_complement, check_is_within, division_is_exact};
+pub use laws::{check_is_the_complement, check_is_within, check_of_the_digits, division_is_exact};
 pub use value::Crc;
 
 #[cfg(test)]
