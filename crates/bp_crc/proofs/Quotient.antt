@@ -112,7 +112,8 @@ leading true = refl
 made-cons : (c : Bool) (q low r : List Bool) → made (c ∷ q) low r ≡ c ∷ sum_of (raised (times c low) (length q)) (made q low r)
 unfolding made product times sum_of
 made-cons c q low r =
-    rw (leading c) (ap (λ (x : List Bool). c ∷ x) (sum_of-assoc (raised (times c low) (length q)) (product q (true ∷ low)) (replicate (length q) false ++ r)))
+    let zeros : List Bool = replicate (length q) false in
+    rw (leading c) (ap (λ (x : List Bool). c ∷ x) (sum_of-assoc (raised (times c low) (length q)) (product q (true ∷ low)) (zeros ++ r)))
 
 length-made : (q low r : List Bool) → length r ≡ length low → length (made q low r) ≡ length q + length low
 unfolding made
@@ -174,4 +175,5 @@ pub IsDivision-remainder : (low dividend r : List Bool) → IsDivision low divid
 unfolding made
 IsDivision-remainder low dividend r d =
     let len : length dividend ≡ length d.quotient + length low = ap length d.whole ∙ length-made d.quotient low r d.lower in
-    sym (remainder-divided low dividend (length d.quotient) len ∙ ap (divided low (length d.quotient)) d.whole ∙ divided-made d.quotient low r d.lower)
+    let n : ℕ = length d.quotient in
+    sym (remainder-divided low dividend n len ∙ ap (divided low n) d.whole ∙ divided-made d.quotient low r d.lower)

@@ -48,22 +48,27 @@ register_of-push w bytes byte h =
     ∙ ap (λ x. bit_xor (steps t n start) x) (steps-shifted t n byte)
     ∙ ap (λ x. bit_xor x byte) (sym (register_of-steps w bytes)))
 
+length-byte : (w byte : ℕ) → length (raised (bits_of 8 byte) w) ≡ 8 + length (generator w)
+length-byte w byte = omega (arith, length-raised (bits_of 8 byte) w, length-bits_of 8 byte, length-generator w)
+
+-- the remainder of a byte is eight steps from it, and fits in the width
 byte_remainder-steps : (w byte : ℕ) → byte < 2 ^ 8 → byte_remainder w byte ≡ steps (number_of (generator w)) 8 byte
 unfolding byte_remainder
 byte_remainder-steps w byte h =
-    let dividend : List Bool = raised (bits_of 8 byte) w in
-    let len : length dividend ≡ 8 + length (generator w) = omega (arith, length-raised (bits_of 8 byte) w, length-bits_of 8 byte, length-generator w) in
-    ap number_of (remainder-divided (generator w) dividend 8 len) ∙ number_of-divided (generator w) 8 dividend
+    let bits : List Bool = raised (bits_of 8 byte) w in
+    ap number_of (remainder-divided (generator w) bits 8 (length-byte w byte)) ∙ number_of-divided (generator w) 8 bits
     ∙ ap (steps (number_of (generator w)) 8) (number_of-raised (bits_of 8 byte) w ∙ number_of-bits_of 8 byte h)
 
 byte_remainder-lt : (w byte : ℕ) → byte_remainder w byte < 2 ^ w
 unfolding byte_remainder
 byte_remainder-lt w byte =
-    let dividend : List Bool = raised (bits_of 8 byte) w in
-    let len : length dividend ≡ 8 + length (generator w) = omega (arith, length-raised (bits_of 8 byte) w, length-bits_of 8 byte, length-generator w) in
-    let r : List Bool = remainder (generator w) dividend in
-    let same : length r ≡ w = length-remainder (generator w) dividend 8 len ∙ length-generator w in
+    let bits : List Bool = raised (bits_of 8 byte) w in
+    let r : List Bool = remainder (generator w) bits in
+    let same : length r ≡ w = length-remainder (generator w) bits 8 (length-byte w byte) ∙ length-generator w in
     subst (λ k. number_of r < 2 ^ k) same (number_of-lt r)
+
+div_small : (n : ℕ) → n < 2 ^ 8 → n / 2 ^ 8 ≡ 0
+div_small n h = omega arith
 
 -- the test of a table says that each entry is a byte's remainder
 entry_is : (w from : ℕ) (entries : List ℕ) (i : ℕ) → IsTrue (is_table w from entries) → i < length entries
@@ -76,14 +81,15 @@ entry_is w from (entry ∷ rest) (suc i) h below =
     let place : from + 1 + i ≡ from + suc i = omega arith in
     entry_is w (from + 1) rest i (and_parts _ _ h).1 (omega arith) ∙ ap (byte_remainder w) place
 
-div_small : (n : ℕ) → n < 2 ^ 8 → n / 2 ^ 8 ≡ 0
-div_small n h = omega arith
-
 -- and that there is one for each byte
 length_is : (w from : ℕ) (entries : List ℕ) → IsTrue (is_table w from entries) → from + length entries ≡ 256
 unfolding is_table
 length_is w from [] h = add-zero from ∙ eqb-true from 256 h
 length_is w from (entry ∷ rest) h = omega (arith, length_is w (from + 1) rest (and_parts _ _ h).1)
+
+-- what one turn of the loop makes of a register
+abbrev pub turn : List ℕ → ℕ → ℕ → ℕ
+turn entries register byte = bit_xor (get_or entries (bit_and (bit_xor register byte) 255) 0) (register / 2 ^ 8)
 
 module _ (w : ℕ) (entries : List ℕ) (table : IsTrue (is_table w 0 entries)) where
   looked_up : (byte : ℕ) → byte < 2 ^ 8 → get_or entries byte 0 ≡ byte_remainder w byte
@@ -91,18 +97,17 @@ module _ (w : ℕ) (entries : List ℕ) (table : IsTrue (is_table w 0 entries)) 
       let len : 0 + length entries ≡ 256 = length_is w 0 entries table in
       entry_is w 0 entries byte table (omega arith) ∙ ap (byte_remainder w) (zero-add byte)
 
-  -- what one turn of the loop makes of a register
-  pub turn-lt : (register byte : ℕ) → register < 2 ^ w → byte < 2 ^ 8
-      → bit_xor (get_or entries (bit_and (bit_xor register byte) 255) 0) (register / 2 ^ 8) < 2 ^ w
+  -- it fits in the width
+  pub turn-lt : (register byte : ℕ) → register < 2 ^ w → byte < 2 ^ 8 → turn entries register byte < 2 ^ w
   turn-lt register byte h below =
       let index : ℕ = bit_xor register byte in
       let small : bit_and index 255 < 2 ^ 8 = omega (arith, and_mask index 8) in
       let entry : get_or entries (bit_and index 255) 0 < 2 ^ w = rw (looked_up (bit_and index 255) small) (byte_remainder-lt w (bit_and index 255)) in
       xor_lt w (get_or entries (bit_and index 255) 0) (register / 2 ^ 8) entry (omega arith)
 
-  -- one turn of the loop takes in one more byte
+  -- and one more byte is taken in
   pub turn-register_of : (fed : List ℕ) (byte : ℕ) → byte < 2 ^ 8
-      → bit_xor (get_or entries (bit_and (bit_xor (register_of w fed) byte) 255) 0) (register_of w fed / 2 ^ 8) ≡ register_of w (fed ++ byte ∷ [])
+      → turn entries (register_of w fed) byte ≡ register_of w (fed ++ byte ∷ [])
   turn-register_of fed byte h =
       let register : ℕ = register_of w fed in
       let mixed : ℕ = bit_xor register byte in
