@@ -1,0 +1,4 @@
+pub mod Check
+pub mod Division
+pub mod Polynomial
+pub mod Table

@@ -1,0 +1,15 @@
+//! The check values of a bundle's blocks: CRC-16 X-25 and CRC-32C, each the remainder of a long division of polynomials
+//! over bits (RFC 9171, section 4.2.1).
+#![tactic(auto)]
+
+mod kind;
+mod laws;
+mod tables;
+mod value;
+
+pub use kind::CheckKind;
+pub use laws::{check_is_the_complement, check_is_within, check_of_the_digits, division_is_exact};
+pub use value::Crc;
+
+#[cfg(test)]
+mod tests;
