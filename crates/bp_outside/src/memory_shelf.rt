@@ -27,7 +27,11 @@ impl Model for MemoryShelf {
     ghost Value = { ShelfState };
 
     ghost view = { λ s. record {
-        files = s.files; failing = s.calls.failing; calls = s.calls.count; failed = s.failed } };
+      files = s.files;
+      failing = s.calls.failing;
+      calls = s.calls.count;
+      failed = s.failed;
+    } };
 }
 
 impl MemoryShelf {
