@@ -51,7 +51,8 @@ fn read_file<R: Read>(file: &mut R, limit: u64, out: &mut Bytes) -> Result<(), F
     ensures fits { OnOk result (length out.new ≤ limit) }
     ensures whole { OnOk result (IfSome (R.remaining file.old) (λ bytes. out.new ≡ bytes)) }
     ensures one_more { IsErrOf result FetchFault.TooLong → length out.new ≡ limit + 1 }
-    ensures front { IsErrOf result FetchFault.TooLong → IfSome (R.remaining file.old) (λ bytes. out.new ≡ take (limit + 1) bytes) }
+    ensures front { IsErrOf result FetchFault.TooLong
+        → IfSome (R.remaining file.old) (λ bytes. out.new ≡ take (limit + 1) bytes) }
     ensures no_memory { IsErrOf result FetchFault.NoMemory → out.new ≡ [] }
 {
     let most = limit as usize + 1;

@@ -1,8 +1,9 @@
 //! A list of files to fetch from, some of whose fetches fail.
 
-ghost use Rattle.std.specs.Prelude.{◌≡◌, ◌+◌, ◌-◌, ◌^◌, ◌<◌, ◌≤◌, ◌↔◌, ◌⊎◌, ◌++◌, [], ◌∷◌, length, take, Contains, Some, OnOk, IsNone, IsErrOf, IsSomeAnd};
+ghost use Rattle.std.specs.Prelude.{◌≡◌, ◌+◌, ◌-◌, ◌^◌, ◌<◌, ◌≤◌, ◌↔◌, ◌⊎◌, ◌++◌, [], ◌∷◌, length, Contains, Some, OnOk, IsNone, IsErrOf};
 ghost use Rattle.bp_outside.specs.Files.{held};
 ghost use Rattle.bp_outside.specs.Memory.{counted};
+ghost use Rattle.bp_outside.specs.Outside.{IsTooLong};
 
 use crate::calls::Calls;
 use crate::files::{find_file, note, put_content};
@@ -27,7 +28,11 @@ impl Model for MemoryShelf {
     ghost Value = { ShelfState };
 
     ghost view = { λ s. record {
-        files = s.files; failing = s.calls.failing; calls = s.calls.count; failed = s.failed } };
+      files = s.files;
+      failing = s.calls.failing;
+      calls = s.calls.count;
+      failed = s.failed;
+    } };
 }
 
 impl MemoryShelf {
@@ -60,7 +65,7 @@ impl Shelf for MemoryShelf {
         ensures ok_only { OnOk result ((Contains self.old.failing self.old.calls → ⊥)
             × (held self.old.files name.now ≡ Some out.new) × (length out.new ≤ limit)) }
         ensures too_long_only { IsErrOf result FetchFault.TooLong → (Contains self.old.failing self.old.calls → ⊥)
-            × IsSomeAnd (held self.old.files name.now) (λ content. (limit < length content) × (out.new ≡ take (limit + 1) content)) }
+            × IsTooLong (Some (held self.old.files)) name.now limit out.new }
 
         ensures one_more { IsErrOf result FetchFault.TooLong → length out.new ≡ limit + 1 }
         ensures empty_failed { IsErrOf result FetchFault.Failed → out.new ≡ [] }

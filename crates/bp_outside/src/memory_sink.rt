@@ -26,8 +26,12 @@ impl Model for MemorySink {
     ghost Value = { SinkState };
 
     ghost view = { λ s. record {
-        written = s.written.items; room = s.room;
-        failing = s.calls.failing; calls = s.calls.count; faults = s.faults.count } };
+      written = s.written.items;
+      room = s.room;
+      failing = s.calls.failing;
+      calls = s.calls.count;
+      faults = s.faults.count;
+    } };
 
     ghost invariant = { λ s. vec_len s.written + s.room ≤ vec_capacity s.written };
 }
@@ -37,7 +41,12 @@ impl MemorySink {
     /// 0, stand in `failing` fail.
     pub fn new(alloc: Global, room: usize, failing: List<u64>) -> Result<MemorySink, NoMemory>
         ensures { IfOk result (λ sink. sink ≡ record {
-            written = []; room = room; failing = failing; calls = 0; faults = 0 }) }
+          written = [];
+          room = room;
+          failing = failing;
+          calls = 0;
+          faults = 0;
+        }) }
     {
         Ok(MemorySink {
             written: Vec::with_capacity(alloc, room)?,
@@ -65,16 +74,23 @@ impl Sink for MemorySink {
     ghost takes = { λ s n. NoneFails s.failing s.calls × (n ≤ s.room) };
 
     fn write(&mut self, piece: &[u8]) -> Result<usize, Failed>
-        ensures fails { IsErr result ↔ (Contains self.old.failing self.old.calls ⊎ (self.old.room ≡ 0 × 0 < length piece.now)) }
+        ensures fails { IsErr result
+            ↔ (Contains self.old.failing self.old.calls ⊎ ((self.old.room ≡ 0) × (0 < length piece.now))) }
         ensures takes { IfOk result (λ n. n ≡ min (length piece.now) self.old.room) }
         ensures after { IfOk result (λ n. self.new ≡ record self.old {
-            written = self.old.written ++ take n piece.now; room = self.old.room - n; calls = counted self.old.calls }) }
+          written = self.old.written ++ take n piece.now;
+          room = self.old.room - n;
+          calls = counted self.old.calls;
+        }) }
         ensures fault { OnErr result (self.new ≡ record self.old {
-            calls = counted self.old.calls; faults = counted self.old.faults }) }
+          calls = counted self.old.calls;
+          faults = counted self.old.faults;
+        }) }
 
         ensures some { IfOk result (λ n. 0 < length piece.now → 0 < n) }
         ensures never_falls { self.old.faults ≤ self.new.faults }
-        ensures takes_on { (n : ℕ) → NoneFails self.old.failing self.old.calls × (n ≤ self.old.room) → length piece.now ≤ n
+        ensures takes_on { (n : ℕ) → NoneFails self.old.failing self.old.calls × (n ≤ self.old.room)
+            → length piece.now ≤ n
             → IsOkAnd result (λ k. NoneFails self.new.failing self.new.calls × (n - k ≤ self.new.room)) }
     {
         let is_full = self.room == 0 && !piece.is_empty();

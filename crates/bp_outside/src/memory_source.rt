@@ -27,8 +27,12 @@ impl Model for MemorySource {
     ghost Value = { SourceState };
 
     ghost view = { λ s. record {
-        left = drop s.given s.bytes; most = s.most;
-        failing = s.calls.failing; calls = s.calls.count; faults = s.faults.count } };
+      left = drop s.given s.bytes;
+      most = s.most;
+      failing = s.calls.failing;
+      calls = s.calls.count;
+      faults = s.faults.count;
+    } };
 
     ghost invariant = { λ s. (s.given ≤ length s.bytes) × (1 ≤ s.most) };
 }
@@ -63,9 +67,13 @@ impl Source for MemorySource {
         ensures gives { IfOk result (λ n. n ≡ min self.old.most (min (length buf.old) (length self.old.left))) }
         ensures moved { IfOk result (λ n. self.old.left ≡ take n buf.new ++ self.new.left) }
         ensures rest { IfOk result (λ n. self.new ≡ record self.old {
-            left = drop n self.old.left; calls = counted self.old.calls }) }
+          left = drop n self.old.left;
+          calls = counted self.old.calls;
+        }) }
         ensures fault { OnErr result (self.new ≡ record self.old {
-            calls = counted self.old.calls; faults = counted self.old.faults }) }
+          calls = counted self.old.calls;
+          faults = counted self.old.faults;
+        }) }
 
         ensures ended { IfOk result (λ n. n ≡ 0 → 0 < length buf.old → self.old.left ≡ []) }
         ensures never_falls { self.old.faults ≤ self.new.faults }

@@ -60,7 +60,8 @@ impl<W: Write> Sink for OutputSink<W> {
     fn write(&mut self, piece: &[u8]) -> Result<usize, Failed>
         ensures within { IfOk result (λ n. n ≤ length piece.now) }
         ensures some { IfOk result (λ n. 0 < length piece.now → 0 < n) }
-        ensures bytes { IfOk result (λ n. Appends (W.contents self.old.device) (W.contents self.new.device) (take n piece.now)) }
+        ensures bytes { IfOk result (λ n.
+            Appends (W.contents self.old.device) (W.contents self.new.device) (take n piece.now)) }
         ensures quiet { OnOk result (self.new.faults ≡ self.old.faults) }
         ensures failed { OnErr result (self.new.faults ≡ counted self.old.faults) }
         ensures never_falls { self.old.faults ≤ self.new.faults }

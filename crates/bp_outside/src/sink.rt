@@ -26,19 +26,22 @@ pub trait Sink {
         ensures quiet { OnOk result (faults self.new ≡ faults self.old) }
         ensures failed { OnErr result (Rose (faults self.old) (faults self.new)) }
         ensures never_falls { faults self.old ≤ faults self.new }
-        ensures takes_on { (n : ℕ) → takes self.old n → length piece.now ≤ n → IsOkAnd result (λ k. takes self.new (n - k)) };
+        ensures takes_on { (n : ℕ) → takes self.old n → length piece.now ≤ n
+            → IsOkAnd result (λ k. takes self.new (n - k)) };
 }
 
 /// Writes the whole piece, in as many writes as the sink wants. Takes no memory. A fault leaves a proper prefix of the
 /// piece written.
 pub fn write_all<W: Sink>(out: &mut W, piece: &[u8]) -> Result<(), Failed>
     ensures ok { OnOk result (Appended (W.written out.old) piece.now (W.written out.new)) }
-    ensures prefix { OnErr result ((n : ℕ) × (n < length piece.now) × Appended (W.written out.old) (take n piece.now) (W.written out.new)) }
+    ensures prefix { OnErr result ((n : ℕ) × (n < length piece.now)
+        × Appended (W.written out.old) (take n piece.now) (W.written out.new)) }
 
     ensures quiet { OnOk result (W.faults out.new ≡ W.faults out.old) }
     ensures failed { OnErr result (Rose (W.faults out.old) (W.faults out.new)) }
     ensures never_falls { W.faults out.old ≤ W.faults out.new }
-    ensures takes_on { (n : ℕ) → W.takes out.old n → length piece.now ≤ n → IsOk result × W.takes out.new (n - length piece.now) }
+    ensures takes_on { (n : ℕ) → W.takes out.old n → length piece.now ≤ n
+        → IsOk result × W.takes out.new (n - length piece.now) }
 {
     let mut done = 0;
     while done < piece.len() {

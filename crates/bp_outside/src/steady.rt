@@ -1,7 +1,8 @@
 //! The forms in memory that never fail.
 
-ghost use Rattle.std.specs.Prelude.{◌≡◌, ◌+◌, ◌-◌, ◌^◌, ◌<◌, ◌≤◌, ◌++◌, [], length, take, drop, min, None, Some, OnOk, IsErrOf, IsOkAnd, IsSomeAnd};
+ghost use Rattle.std.specs.Prelude.{◌≡◌, ◌+◌, ◌-◌, ◌^◌, ◌<◌, ◌≤◌, ◌++◌, [], length, take, drop, min, None, Some, OnOk, IsErrOf, IsOkAnd};
 ghost use Rattle.bp_outside.specs.Files.{held_or_empty};
+ghost use Rattle.bp_outside.specs.Outside.{IsTooLong};
 
 use crate::fault::Failed;
 use crate::files::{find_file, put_content};
@@ -101,8 +102,8 @@ impl Shelf for SteadyShelf {
         requires { limit < 2 ^ 64 - 1 }
         ensures never_failed { IsErrOf result FetchFault.Failed → ⊥ }
         ensures ok_only { OnOk result ((held_or_empty self.old name.now ≡ Some out.new) × (length out.new ≤ limit)) }
-        ensures too_long_only { IsErrOf result FetchFault.TooLong → IsSomeAnd (held_or_empty self.old name.now)
-            (λ content. (limit < length content) × (out.new ≡ take (limit + 1) content)) }
+        ensures too_long_only { IsErrOf result FetchFault.TooLong
+            → IsTooLong (Some (held_or_empty self.old)) name.now limit out.new }
         ensures one_more { IsErrOf result FetchFault.TooLong → length out.new ≡ limit + 1 }
         ensures empty_no_memory { IsErrOf result FetchFault.NoMemory → out.new ≡ [] }
         ensures unchanged { self.new ≡ self.old }
