@@ -1,5 +1,5 @@
 -- Reading items one after the other.
-use Rattle.std.proofs.Common.{◌≡◌, ℕ, zero, suc, ◌+◌, ◌*◌, ◌-◌, ◌<◌, ◌≤◌, List, [], ◌∷◌, ◌++◌, length, drop, Result, Ok, Err, refl, sym, ◌∙◌, ap, subst, arith}
+use Rattle.std.proofs.Common.{◌≡◌, ℕ, zero, suc, ◌+◌, ◌*◌, ◌-◌, ◌<◌, ◌≤◌, List, Result, Ok, Err, refl, sym, ◌∙◌, arith}
 use Rattle.cbor_profile.specs.declared.item.ItemFault.{ItemFault}
 use Rattle.cbor_profile.specs.Item.{◌>>=◌, Items, item_from, each_from, content_from}
 

@@ -1,4 +1,4 @@
-use Rattle.std.specs.Prelude.{ℕ, List, ◌++◌, length, take}
+use Rattle.std.specs.Prelude.{List, ◌++◌, length, take}
 use Rattle.std.proofs.Common.{drop}
 
 -- the old list with another written over its front; where both have one length, the other

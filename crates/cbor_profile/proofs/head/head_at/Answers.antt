@@ -1,4 +1,4 @@
-use Rattle.std.proofs.Common.{◌≡◌, ◌∙◌, sym, ap, arith}
+use Rattle.std.proofs.Common.{◌∙◌, sym, ap, arith}
 use Rattle.cbor_profile.specs.Head.{read_head}
 use Rattle.cbor_profile.proofs.Heads.{read-spelling, read-means, IfWhole_from}
 use Rattle.cbor_profile.proofs.head.head_at.Goals as goal

@@ -1,0 +1,3 @@
+mod FirstForm
+mod Responses
+mod Statuses

@@ -1,0 +1,82 @@
+//! The top call.
+
+ghost use Rattle.std.specs.Prelude.{◌≡◌, [], map, string_bytes, IfSome};
+ghost use Rattle.bp_outside.specs.Outside.{Rose};
+ghost use Rattle.bpsec_command.specs.Words.{ReadsInput};
+ghost use Rattle.bpsec_command.specs.Answer.{IsAnswer, Given, input_fault, memory_fault};
+ghost use Rattle.bpsec_command.specs.Delivery.{IsDelivered, BreaksOffOut, BreaksOffReport, IsDue, IsAnswered, IsUsage, HasNoFault, Takes, Written};
+ghost use Rattle.bpsec_command.specs.declared.answer.Answer.{Answer};
+ghost use Rattle.bpsec_command.specs.declared.status.Status.TheVariants.{Done, ReadFault, WriteFault, NoMemory};
+ghost use Rattle.bpsec_command.specs.declared.status.Reading.TheVariants.{Input, Shelf};
+ghost use Rattle.bpsec_command.specs.declared.status.Writing.TheVariants.{Out, Report};
+
+use crate::answer::Hindrance;
+use crate::deliver::deliver;
+use crate::respond::respond;
+use crate::status::Status;
+use bp_outside::{Shelf, Sink, Source};
+use std::alloc::Global;
+
+/// Runs the program: from the words after its name, the input and the files, to what it writes and its status.
+///
+/// `files` and `input` are what the shelf and the source tell. Where one tells nothing, the clauses on its bytes speak
+/// of some bytes, and those on causes stand.
+pub fn run<S: Source, K: Shelf, W: Sink, R: Sink>(
+    alloc: Global,
+    words: &[String],
+    input: &mut S,
+    shelf: &mut K,
+    out: &mut W,
+    report: &mut R,
+) -> Status
+    // The status is the answer's, with exactly its bytes written, unless a fault or want of memory stands in the way.
+    ensures answered { IsAnswered result → (answer : Answer)
+        × IsAnswer (record { words = map string_bytes words.now; input = S.left input.old }) answer
+        × IsDelivered answer result (record { out_before = W.written out.old; out_now = W.written out.new; report_before = R.written report.old; report_now = R.written report.new }) }
+
+    // A read fault: the count rose, the words are a line that reads, the output has nothing, the report its line.
+    ensures read_fault { result ≡ ReadFault Input → Rose (S.faults input.old) (S.faults input.new) }
+    ensures read_fault_words { result ≡ ReadFault Input → ReadsInput (map string_bytes words.now) }
+    ensures read_fault_line { result ≡ ReadFault Input
+        → IsDelivered input_fault result (record { out_before = W.written out.old; out_now = W.written out.new; report_before = R.written report.old; report_now = R.written report.new }) }
+    ensures no_shelf_fault { result ≡ ReadFault Shelf → ⊥ }
+
+    // A write fault: the count rose, and what was due was broken off.
+    ensures out_fault { result ≡ WriteFault Out → Rose (W.faults out.old) (W.faults out.new) }
+    ensures out_broken_off { result ≡ WriteFault Out → (answer : Answer)
+        × IsAnswer (record { words = map string_bytes words.now; input = S.left input.old }) answer
+        × BreaksOffOut answer (record { out_before = W.written out.old; out_now = W.written out.new; report_before = R.written report.old; report_now = R.written report.new }) }
+    ensures report_fault { result ≡ WriteFault Report → Rose (R.faults report.old) (R.faults report.new) }
+    ensures report_broken_off { result ≡ WriteFault Report → (answer : Answer)
+        × IsDue (record { words = map string_bytes words.now; input = S.left input.old }) (Rose (S.faults input.old) (S.faults input.new)) answer
+        × BreaksOffReport answer (record { out_before = W.written out.old; out_now = W.written out.new; report_before = R.written report.old; report_now = R.written report.new }) }
+
+    ensures no_memory { result ≡ NoMemory
+        → IsDelivered memory_fault result (record { out_before = W.written out.old; out_now = W.written out.new; report_before = R.written report.old; report_now = R.written report.new }) }
+
+    // What is left of the input, and of the files.
+    ensures ended { result ≡ Done → IfSome (S.left input.new) (λ rest. rest ≡ []) }
+    ensures unread { IsUsage result → S.left input.new ≡ S.left input.old }
+    ensures files { K.files shelf.new ≡ K.files shelf.old }
+
+    // No count rises where no fault is told, and none is told where nothing fails and all that is due is taken.
+    ensures quiet_input { HasNoFault result → S.faults input.new ≡ S.faults input.old }
+    ensures quiet_shelf { K.failed shelf.new ≡ K.failed shelf.old }
+    ensures quiet_out { HasNoFault result → W.faults out.new ≡ W.faults out.old }
+    ensures quiet_report { HasNoFault result → R.faults report.new ≡ R.faults report.old }
+    ensures complete { S.steady input.old → K.steady shelf.old
+        → ((answer : Answer) → IsAnswer (record { words = map string_bytes words.now; input = S.left input.old }) answer
+        → Takes (W.takes out.old) answer.out × Takes (R.takes report.old) answer.report)
+        → Takes (R.takes report.old) memory_fault.report → HasNoFault result }
+{
+    match respond(alloc, words, input) {
+        Ok(answer) => deliver(
+            answer.status,
+            answer.out.as_slice(),
+            answer.report.as_slice(),
+            out,
+            report,
+        ),
+        Err(hindrance) => deliver(hindrance.status(), &[], hindrance.line(), out, report),
+    }
+}

@@ -1,0 +1,7 @@
+//! Worked cases: whole runs of the program over a source, a shelf and sinks in memory. One table for each command.
+#![tactic(auto)]
+
+#[cfg(test)]
+mod check;
+#[cfg(test)]
+mod runs;
