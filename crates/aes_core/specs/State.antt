@@ -40,9 +40,9 @@ mixed = circulant 2 3 1 1
 unfoldable pub mix_columns : List ℕ → List ℕ
 mix_columns s = state_of (λ r c. mixed (λ i. at s i c) r)
 
--- column c has word 4 n + c of the expanded key w added to it (5.1.4, ADDROUNDKEY)
+-- round key n of the expanded key w, which is its bytes from 16 n on, is added byte by byte (5.1.4, ADDROUNDKEY)
 unfoldable pub add_round_key : List ℕ → ℕ → List ℕ → List ℕ
-add_round_key w n s = state_of (λ r c. bit_xor (at s r c) (slice_index w (4 * (4 * n + c) + r)))
+add_round_key w n s = state_of (λ r c. bit_xor (at s r c) (slice_index w (16 * n + (r + 4 * c))))
 
 -- row r turns to the right by r (5.3.1, INVSHIFTROWS)
 unfoldable pub inverse_shift_rows : List ℕ → List ℕ

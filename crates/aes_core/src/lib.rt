@@ -12,3 +12,6 @@ mod state;
 
 pub use cipher::Aes;
 pub use laws::{blocks_have_sixteen_bytes, decryption_undoes_encryption};
+
+#[cfg(test)]
+mod tests;

@@ -1,6 +1,7 @@
 //! What a round does to the state, which is a block of 16 bytes, column by column (FIPS 197, sections 5.1 and 5.3).
 
 ghost use Rattle.std.specs.Prelude.{◌≡◌, ◌+◌, ◌*◌, ◌≤◌, [], ◌∷◌, length, slice_index};
+ghost use Rattle.aes_core.specs.Field.{product};
 ghost use Rattle.aes_core.specs.State.{sub_bytes, shift_rows, mix_columns, add_round_key, inverse_sub_bytes, inverse_shift_rows, inverse_mix_columns, column_of, mixed, unmixed};
 
 use crate::boxes::{inverse_sub_byte, sub_byte};
@@ -25,6 +26,7 @@ pub(crate) fn inverse_sub_bytes(state: &mut [u8; 16])
 }
 
 // Row r turns to the left by r.
+#[tactic(auto, unfolding(crate::specs::State::shift_rows, crate::specs::State::state_of))]
 pub(crate) fn shift_rows(state: &mut [u8; 16])
     ensures { state.new ≡ shift_rows state.old }
 {
@@ -52,6 +54,7 @@ pub(crate) fn shift_rows(state: &mut [u8; 16])
 }
 
 // Row r turns to the right by r.
+#[tactic(auto, unfolding(crate::specs::State::inverse_shift_rows, crate::specs::State::state_of))]
 pub(crate) fn inverse_shift_rows(state: &mut [u8; 16])
     ensures { state.new ≡ inverse_shift_rows state.old }
 {
@@ -83,12 +86,12 @@ fn mix_column(column: [u8; 4]) -> [u8; 4]
     ensures { result ≡ column_of (mixed (slice_index column)) }
 {
     let [a, b, c, d] = column;
-    let all = a ^ b ^ c ^ d;
+    let twice = [times_x(a), times_x(b), times_x(c), times_x(d)];
     [
-        a ^ all ^ times_x(a ^ b),
-        b ^ all ^ times_x(b ^ c),
-        c ^ all ^ times_x(c ^ d),
-        d ^ all ^ times_x(d ^ a),
+        twice[0] ^ (twice[1] ^ b) ^ c ^ d,
+        twice[1] ^ (twice[2] ^ c) ^ d ^ a,
+        twice[2] ^ (twice[3] ^ d) ^ a ^ b,
+        twice[3] ^ (twice[0] ^ a) ^ b ^ c,
     ]
 }
 
@@ -133,15 +136,36 @@ pub(crate) fn add_round_key(w: &[u8], n: usize, state: &mut [u8; 16])
     }
 }
 
-// A column times the matrix of 0e 0b 0d 09. With x^2 (a + c) added to the bytes of one parity, and x^2 (b + d) to the others,
-// it is that of 02 03 01 01.
+// A byte times 0e, 0b, 0d and 09.
+fn inverse_products(a: u8) -> [u8; 4]
+    ensures { result ≡ product 0x0e a ∷ product 0x0b a ∷ product 0x0d a ∷ product 0x09 a ∷ [] }
+{
+    let twice = times_x(a);
+    let four_times = times_x(twice);
+    let eight_times = times_x(four_times);
+    [
+        eight_times ^ four_times ^ twice,
+        eight_times ^ twice ^ a,
+        eight_times ^ four_times ^ a,
+        eight_times ^ a,
+    ]
+}
+
+// A column times the matrix of 0e 0b 0d 09.
 fn unmix_column(column: [u8; 4]) -> [u8; 4]
     ensures { result ≡ column_of (unmixed (slice_index column)) }
 {
     let [a, b, c, d] = column;
-    let even = times_x(times_x(a ^ c));
-    let odd = times_x(times_x(b ^ d));
-    mix_column([a ^ even, b ^ odd, c ^ even, d ^ odd])
+    let [a14, a11, a13, a9] = inverse_products(a);
+    let [b14, b11, b13, b9] = inverse_products(b);
+    let [c14, c11, c13, c9] = inverse_products(c);
+    let [d14, d11, d13, d9] = inverse_products(d);
+    [
+        a14 ^ b11 ^ c13 ^ d9,
+        b14 ^ c11 ^ d13 ^ a9,
+        c14 ^ d11 ^ a13 ^ b9,
+        d14 ^ a11 ^ b13 ^ c9,
+    ]
 }
 
 // Each column times the matrix of 0e 0b 0d 09.
