@@ -1,13 +1,15 @@
 -- The expanded key: its length, its bytes, and its first words.
-use Rattle.std.proofs.Common.{◌≡◌, ℕ, zero, suc, ◌+◌, ◌-◌, ◌*◌, ◌/◌, ◌%◌, ◌<◌, ◌≤◌, Bool, true, false, cond, List, [], ◌∷◌, ◌++◌, All, length, get_or, take, refl, sym, ap, ◌∙◌, arith, inl, inr, length-append, eqb, ◌&&◌}
+use Rattle.std.proofs.Common.{◌≡◌, ℕ, zero, suc, ◌+◌, ◌-◌, ◌*◌, ◌/◌, ◌%◌, ◌<◌, ◌≤◌, Bool, true, false, cond, List, [], ◌∷◌, ◌++◌, All, length, get_or, take, refl, sym, ap, ◌∙◌, arith, inl, inr, length-append, eqb, ◌&&◌, ◌⊎◌}
 use Rattle.std.proofs.lemmas.Bool.{cases_lt}
+use Rattle.std.proofs.lemmas.Bool.Decides.{nat_tests}
 use Rattle.std.proofs.lemmas.List.{get_or_default, get_or_past, get_or_append_left, get_or-append_right, take-append-le, take_all}
 use Rattle.std.specs.Int.Bits.{bit_xor}
-use Rattle.aes_core.specs.Field.{power}
+use Rattle.aes_core.specs.Field.{times_x, power}
 use Rattle.aes_core.specs.Boxes.{sub_byte}
-use Rattle.aes_core.specs.KeyExpansion.{word_at, add_words, sub_word, rot_word, round_constant, word_term, next_word, extended_key, key_expansion}
+use Rattle.aes_core.specs.KeyExpansion.{IsKeySize, word_at, add_words, sub_word, rot_word, round_constant, word_term, next_word, extended_key, key_expansion}
 use Rattle.aes_core.proofs.BoxTables.{sub_byte-lt}
 use Rattle.aes_core.proofs.FieldLemmas.{xor_of_bytes, power-lt}
+use Rattle.aes_core.proofs.MixLemmas.{product_by_2}
 use Rattle.aes_core.proofs.StateLemmas.{Bytes}
 
 pub Bytes-from_All : (s : List ℕ) → All (λ b. b < 256) s → Bytes s
@@ -83,6 +85,10 @@ length-extended_key nk key (suc n) =
     let both = length-append (extended_key nk key n) (next_word nk (nk + n) (extended_key nk key n)) in
     omega (arith, before, both)
 
+pub length-next_word : (nk i : ℕ) (w : List ℕ) → length (next_word nk i w) ≡ 4
+unfolding next_word
+length-next_word nk i w = refl
+
 -- the expanded key begins with the key
 pub take-extended_key : (nk : ℕ) (key : List ℕ) (n : ℕ) → take (length key) (extended_key nk key n) ≡ key
 unfolding extended_key
@@ -90,3 +96,39 @@ take-extended_key nk key zero = take_all (length key) key (omega arith)
 take-extended_key nk key (suc n) =
     take-append-le (length key) (extended_key nk key n) (next_word nk (nk + n) (extended_key nk key n)) (omega (arith, length-extended_key nk key n))
     ∙ take-extended_key nk key n
+
+-- ---- the loop over the words, in the code's numbers
+
+-- a key has 4 words or 8
+pub sizes : (nk : ℕ) → IsKeySize nk → (nk ≡ 4) ⊎ (nk ≡ 8)
+sizes nk h = grind (arith, nat_tests)
+
+pub size_bounds : (nk : ℕ) → IsKeySize nk → (4 ≤ nk) × (nk ≤ 8)
+size_bounds nk h = elim (sizes nk h) [ inl e ↦ (omega arith, omega arith) | inr e ↦ (omega arith, omega arith) ]
+
+pub extended_key_more : (nk : ℕ) (key : List ℕ) (i : ℕ) → nk ≤ i → extended_key nk key (i + 1 - nk) ≡ extended_key nk key (i - nk) ++ next_word nk i (extended_key nk key (i - nk))
+unfolding extended_key
+extended_key_more nk key i h =
+    let e : i + 1 - nk ≡ suc (i - nk) = omega arith in
+    let f : nk + (i - nk) ≡ i = omega arith in
+    rw e (ap (λ m. extended_key nk key (i - nk) ++ next_word nk m (extended_key nk key (i - nk))) f)
+
+-- which power of x the round constant is
+pub first_constant : (nk : ℕ) → IsKeySize nk → 1 ≡ power 2 ((nk - 1) / nk)
+unfolding power
+first_constant nk h = elim (sizes nk h) [ inl e ↦ rw e refl | inr e ↦ rw e refl ]
+
+pub same_constant : (nk i c : ℕ) → IsKeySize nk → 1 ≤ i → (i % nk ≡ 0 → ⊥) → c ≡ power 2 ((i - 1) / nk) → c ≡ power 2 ((i + 1 - 1) / nk)
+same_constant nk i c h p q k = k ∙ ap (power 2) (elim (sizes nk h) as (λ _. (i - 1) / nk ≡ (i + 1 - 1) / nk) [
+  | inl e ↦ let n : i % 4 ≡ 0 → ⊥ = rw e at q in rw e (omega arith)
+  | inr e ↦ let n : i % 8 ≡ 0 → ⊥ = rw e at q in rw e (omega arith)
+])
+
+pub next_constant : (nk i c : ℕ) → IsKeySize nk → nk ≤ i → i % nk ≡ 0 → c ≡ power 2 ((i - 1) / nk) → times_x c ≡ power 2 ((i + 1 - 1) / nk)
+unfolding power
+next_constant nk i c h p q k =
+    let step : (i + 1 - 1) / nk ≡ suc ((i - 1) / nk) = elim (sizes nk h) as (λ _. (i + 1 - 1) / nk ≡ suc ((i - 1) / nk)) [
+      | inl e ↦ let n : i % 4 ≡ 0 = rw e at q in let m : 4 ≤ i = rw e at p in rw e (omega arith)
+      | inr e ↦ let n : i % 8 ≡ 0 = rw e at q in let m : 8 ≤ i = rw e at p in rw e (omega arith)
+    ] in
+    rw (step, k) (product_by_2 (power 2 ((i - 1) / nk)) (power-lt ((i - 1) / nk)))

@@ -1,5 +1,5 @@
 -- The rounds of decryption undo those of encryption.
-use Rattle.std.proofs.Common.{◌≡◌, ℕ, zero, suc, ◌+◌, ◌-◌, List, length, refl, sym, ap, ◌∙◌, arith}
+use Rattle.std.proofs.Common.{◌≡◌, ℕ, zero, suc, ◌+◌, ◌-◌, ◌≤◌, List, length, refl, sym, ap, ◌∙◌, arith}
 use Rattle.aes_core.specs.State.{sub_bytes, shift_rows, mix_columns, add_round_key, inverse_sub_bytes, inverse_shift_rows, inverse_mix_columns}
 use Rattle.aes_core.specs.Cipher.{rounds, encryption, inverse_rounds, decryption}
 use Rattle.aes_core.proofs.StateLemmas.{Bytes, sub_bytes_undone, mix_columns_undone, add_round_key_undone, length-shift_rows, length-mix_columns, length-add_round_key, Bytes-shift_rows-sub_bytes, Bytes-inverse_sub_bytes, Bytes-mix_columns, Bytes-add_round_key}
@@ -59,3 +59,20 @@ length-decryption w nr block = length-add_round_key w 0 _
 pub Bytes-decryption : (w : List ℕ) (nr : ℕ) (block : List ℕ) → Bytes w → Bytes (decryption w nr block)
 unfolding decryption
 Bytes-decryption w nr block b = Bytes-add_round_key w 0 _ b (Bytes-inverse_sub_bytes _)
+
+-- ---- one round more, in the code's numbers
+
+pub rounds_more : (w : List ℕ) (n : ℕ) (s : List ℕ) → 1 ≤ n → rounds w (n + 1 - 1) s ≡ add_round_key w n (mix_columns (shift_rows (sub_bytes (rounds w (n - 1) s))))
+unfolding rounds
+rounds_more w n s h =
+    let e : n + 1 - 1 ≡ suc (n - 1) = omega arith in
+    let f : suc (n - 1) ≡ n = omega arith in
+    rw e (ap (λ m. add_round_key w m (mix_columns (shift_rows (sub_bytes (rounds w (n - 1) s))))) f)
+
+pub inverse_rounds_more : (w : List ℕ) (n : ℕ) (s : List ℕ) → 1 ≤ n
+    → inverse_rounds w n s ≡ inverse_rounds w (n - 1) (inverse_mix_columns (add_round_key w n (inverse_sub_bytes (inverse_shift_rows s))))
+unfolding inverse_rounds
+inverse_rounds_more w n s h =
+    let f : suc (n - 1) ≡ n = omega arith in
+    sym (ap (λ m. inverse_rounds w m s) f)
+    ∙ ap (λ m. inverse_rounds w (n - 1) (inverse_mix_columns (add_round_key w m (inverse_sub_bytes (inverse_shift_rows s))))) f

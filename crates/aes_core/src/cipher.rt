@@ -17,13 +17,13 @@ pub struct Aes<const NK: usize> {
 
 impl<const NK: usize> Model for Aes<NK> {
     ghost use Rattle.std.specs.Prelude.{◌≡◌, ◌+◌, ◌*◌, ℕ, List, take};
-    ghost use Rattle.aes_core.specs.KeyExpansion.{IsKeySize, key_expansion};
+    ghost use Rattle.aes_core.specs.KeyExpansion.{IsKey, key_expansion};
 
     ghost Value = { List ℕ };
 
     ghost view = { λ a. take (4 * NK) a.round_keys };
 
-    ghost invariant = { λ a. IsKeySize NK × (take (16 * (NK + 7)) a.round_keys ≡ key_expansion NK (take (4 * NK) a.round_keys)) };
+    ghost invariant = { λ a. IsKey NK (take (4 * NK) a.round_keys) × (take (16 * (NK + 7)) a.round_keys ≡ key_expansion NK (take (4 * NK) a.round_keys)) };
 }
 
 impl<const NK: usize> Aes<NK> {
@@ -56,7 +56,8 @@ impl<const NK: usize> Aes<NK> {
         ensures key { IsKey NK self.now }
         ensures encrypted { block.new ≡ cipher NK self.now block.old }
     {
-        encryption(&self.round_keys[..16 * (NK + 7)], NK + 6, block);
+        let round_keys = &self.round_keys;
+        encryption(&round_keys[..16 * (NK + 7)], NK + 6, block);
     }
 
     /// Decrypts a block in place (section 5.3).
@@ -66,6 +67,7 @@ impl<const NK: usize> Aes<NK> {
         ensures undoes { (plain : List ℕ) → length plain ≡ 16 → All (λ b. b < 256) plain
             → block.old ≡ cipher NK self.now plain → block.new ≡ plain }
     {
-        decryption(&self.round_keys[..16 * (NK + 7)], NK + 6, block);
+        let round_keys = &self.round_keys;
+        decryption(&round_keys[..16 * (NK + 7)], NK + 6, block);
     }
 }

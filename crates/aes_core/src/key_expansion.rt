@@ -1,6 +1,6 @@
 //! The expansion of a key into the words of the round keys (FIPS 197, section 5.2).
 
-ghost use Rattle.std.specs.Prelude.{◌≡◌, ◌+◌, ◌-◌, ◌*◌, ◌/◌, ◌%◌, ◌≤◌, ◌<◌, [], ◌∷◌, length, take};
+ghost use Rattle.std.specs.Prelude.{◌≡◌, ◌+◌, ◌-◌, ◌*◌, ◌/◌, ◌%◌, ◌≤◌, ◌<◌, [], ◌∷◌, ◌++◌, length, take};
 ghost use Rattle.aes_core.specs.Field.{power};
 ghost use Rattle.aes_core.specs.KeyExpansion.{IsKeySize, word_at, add_words, rot_word, sub_word, word_term, next_word, key_expansion};
 
@@ -46,6 +46,7 @@ fn sub_word(a: [u8; 4]) -> [u8; 4]
 
 // What is added to word i - nk to make word i, from the word before it. `constant` is the first byte of the round
 // constant, where one is added.
+#[tactic(auto, unfolding(crate::specs::KeyExpansion::word_term))]
 fn word_term(nk: usize, i: usize, constant: u8, previous: [u8; 4]) -> [u8; 4]
     requires size { IsKeySize nk }
     requires constant { i % nk ≡ 0 → constant ≡ power 2 (i / nk - 1) }
@@ -61,6 +62,7 @@ fn word_term(nk: usize, i: usize, constant: u8, previous: [u8; 4]) -> [u8; 4]
 }
 
 // Word i, from the words before it.
+#[tactic(auto, unfolding(crate::specs::KeyExpansion::next_word))]
 fn next_word(nk: usize, i: usize, constant: u8, w: &[u8]) -> [u8; 4]
     requires size { IsKeySize nk }
     requires later { nk ≤ i }
@@ -72,18 +74,27 @@ fn next_word(nk: usize, i: usize, constant: u8, w: &[u8]) -> [u8; 4]
     add_words(word_at(w, i - nk), term)
 }
 
+// Writes the bytes from place `at` on.
+fn write_at(w: &mut [u8], at: usize, bytes: &[u8])
+    requires { at + length bytes.now ≤ length w.old }
+    ensures { take (at + length bytes.now) w.new ≡ take at w.old ++ bytes.now }
+{
+    w[at..at + bytes.len()].copy_from_slice(bytes);
+}
+
 /// The expanded key, and zeros after it.
 pub(crate) fn expand(nk: usize, key: &[u8]) -> [u8; MOST]
     requires size { IsKeySize nk }
     requires words { length key.now ≡ 4 * nk }
-    ensures { take (16 * (nk + 7)) result ≡ key_expansion nk key.now }
+    ensures key { take (4 * nk) result ≡ key.now }
+    ensures expanded { take (16 * (nk + 7)) result ≡ key_expansion nk key.now }
 {
     let mut w = [0; MOST];
-    w[..4 * nk].copy_from_slice(key);
+    write_at(&mut w, 0, key);
     let mut constant = 1;
     for i in nk..4 * (nk + 7) {
         let word = next_word(nk, i, constant, &w[..4 * i]);
-        w[4 * i..4 * i + 4].copy_from_slice(&word);
+        write_at(&mut w, 4 * i, &word);
         if i % nk == 0 {
             constant = times_x(constant);
         }
