@@ -1,6 +1,6 @@
 -- The two tables against the definitions of the boxes: one equation that computes for each whole table, and what it says of
 -- each entry.
-use Rattle.std.proofs.Common.{◌≡◌, ◌≢◌, ℕ, zero, suc, ◌+◌, ◌<◌, ◌≤◌, eqb, Bool, true, false, cond, List, get_or, map, refl, sym, ap, ◌∙◌, arith, inl, inr, eq-eqb, ◌/◌}
+use Rattle.std.proofs.Common.{◌≡◌, ℕ, zero, suc, ◌<◌, ◌≤◌, eqb, true, false, cond, get_or, map, refl, sym, ap, ◌∙◌, arith, inl, inr, eq-eqb, ◌/◌}
 use Rattle.std.proofs.lemmas.Bool.{cases_eq, ne_eqb}
 use Rattle.std.specs.List.{range_with_len}
 use Rattle.aes_core.specs.Field.{times_x, product_of_bits, product, power, inverse}

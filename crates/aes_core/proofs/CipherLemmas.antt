@@ -4,7 +4,7 @@ use Rattle.aes_core.specs.KeyExpansion.{IsKey, key_expansion}
 use Rattle.aes_core.specs.Cipher.{cipher, inverse_cipher}
 use Rattle.aes_core.proofs.StateLemmas.{Bytes}
 use Rattle.aes_core.proofs.KeyLemmas.{Bytes-from_All, All-from_Bytes, Bytes-key_expansion}
-use Rattle.aes_core.proofs.RoundLemmas.{IsState, decryption-encryption, length-encryption, length-decryption, Bytes-encryption, Bytes-decryption}
+use Rattle.aes_core.proofs.RoundLemmas.{decryption-encryption, length-encryption, length-decryption, Bytes-encryption, Bytes-decryption}
 
 Bytes-expanded : (nk : ℕ) (key : List ℕ) → IsKey nk key → Bytes (key_expansion nk key)
 Bytes-expanded nk key k = Bytes-key_expansion nk key (Bytes-from_All key k.has_bytes)

@@ -1,5 +1,5 @@
 -- Products of bytes: they are bytes, and they are additive.
-use Rattle.std.proofs.Common.{◌≡◌, ℕ, zero, suc, ◌+◌, ◌*◌, ◌/◌, ◌%◌, ◌<◌, ◌≤◌, refl, sym, ap, ◌∙◌, arith, inl, inr, ◌⊎◌, add-zero}
+use Rattle.std.proofs.Common.{◌≡◌, ℕ, zero, suc, ◌*◌, ◌/◌, ◌%◌, ◌<◌, refl, sym, ap, ◌∙◌, arith, inl, inr, ◌⊎◌, add-zero}
 use Rattle.std.proofs.Math.Nat.{zero-mul, one-mul}
 use Rattle.std.specs.Int.Bits.{bit_xor, xor_assoc, xor_comm, xor_zero_r, xor_self, xor_lt, xor_block, xor_shr}
 use Rattle.aes_core.specs.Field.{times_x, product_of_bits, product, power}

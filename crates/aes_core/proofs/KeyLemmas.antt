@@ -1,11 +1,9 @@
 -- The expanded key: its length, its bytes, and its first words.
-use Rattle.std.proofs.Common.{◌≡◌, ℕ, zero, suc, ◌+◌, ◌-◌, ◌*◌, ◌/◌, ◌%◌, ◌<◌, ◌≤◌, Bool, true, false, cond, List, [], ◌∷◌, ◌++◌, All, length, get_or, take, refl, sym, ap, ◌∙◌, arith, inl, inr, length-append, eqb, ◌&&◌, ◌⊎◌}
+use Rattle.std.proofs.Common.{◌≡◌, ℕ, zero, suc, ◌+◌, ◌-◌, ◌*◌, ◌/◌, ◌%◌, ◌<◌, ◌≤◌, true, false, cond, List, [], ◌∷◌, ◌++◌, All, length, get_or, take, refl, ap, ◌∙◌, arith, inl, inr, length-append, eqb, ◌&&◌, ◌⊎◌}
 use Rattle.std.proofs.lemmas.Bool.{cases_lt}
 use Rattle.std.proofs.lemmas.Bool.Decides.{nat_tests}
 use Rattle.std.proofs.lemmas.List.{get_or_default, get_or_past, get_or_append_left, get_or-append_right, take-append-le, take_all}
-use Rattle.std.specs.Int.Bits.{bit_xor}
 use Rattle.aes_core.specs.Field.{times_x, power}
-use Rattle.aes_core.specs.Boxes.{sub_byte}
 use Rattle.aes_core.specs.KeyExpansion.{IsKeySize, word_at, add_words, sub_word, rot_word, round_constant, word_term, next_word, extended_key, key_expansion}
 use Rattle.aes_core.proofs.BoxTables.{sub_byte-lt}
 use Rattle.aes_core.proofs.FieldLemmas.{xor_of_bytes, power-lt}

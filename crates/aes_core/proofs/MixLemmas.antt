@@ -2,7 +2,7 @@
 use Rattle.std.proofs.Common.{◌≡◌, ℕ, zero, suc, ◌+◌, ◌%◌, ◌<◌, refl, sym, ap, ◌∙◌, arith}
 use Rattle.std.specs.Int.Bits.{bit_xor, xor_assoc, xor_comm, xor_zero_r}
 use Rattle.aes_core.specs.Field.{times_x, product_of_bits, product}
-use Rattle.aes_core.specs.State.{circulant, mixed, unmixed}
+use Rattle.aes_core.specs.State.{mixed, unmixed}
 use Rattle.aes_core.proofs.EachByte.{at_each_byte}
 use Rattle.aes_core.proofs.FieldLemmas.{xor_swap, xor_of_bytes, product-lt, product-xor}
 

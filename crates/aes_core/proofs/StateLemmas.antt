@@ -1,5 +1,5 @@
 -- What a round does to a state keeps 16 bytes, and its inverses undo it.
-use Rattle.std.proofs.Common.{◌≡◌, ℕ, zero, suc, ◌+◌, ◌-◌, ◌*◌, ◌/◌, ◌%◌, ◌<◌, ◌≤◌, List, length, get_or, map, refl, sym, ap, ◌∙◌, arith, inl, inr}
+use Rattle.std.proofs.Common.{◌≡◌, ℕ, ◌+◌, ◌*◌, ◌/◌, ◌%◌, ◌<◌, List, length, get_or, map, refl, sym, ap, ◌∙◌, arith, inl, inr}
 use Rattle.std.proofs.lemmas.List.FromFn.{get_or-map-range_with_len, fill_by_all}
 use Rattle.std.proofs.lemmas.Bool.{cases_lt}
 use Rattle.std.proofs.lemmas.List.{get_or_past}
@@ -8,7 +8,7 @@ use Rattle.std.specs.Int.Bits.{bit_xor}
 use Rattle.aes_core.specs.Boxes.{sub_byte, inverse_sub_byte}
 use Rattle.aes_core.specs.State.{state_of, mixed, unmixed, sub_bytes, shift_rows, mix_columns, add_round_key, inverse_sub_bytes, inverse_shift_rows, inverse_mix_columns}
 use Rattle.aes_core.proofs.BoxTables.{sub_byte-lt, inverse_sub_byte-lt, inverse_sub_byte-sub_byte}
-use Rattle.aes_core.proofs.FieldLemmas.{xor_of_bytes, xor_twice, product-lt}
+use Rattle.aes_core.proofs.FieldLemmas.{xor_of_bytes, xor_twice}
 use Rattle.aes_core.proofs.MixLemmas.{mixed-lt, unmixed-mixed}
 
 -- each byte of a list, and what stands for one past its end, is below 256

@@ -1,4 +1,4 @@
-use Rattle.std.proofs.Common.{◌≡◌, ◌≤◌, ◌-◌, ◌+◌, ◌*◌, ℕ, sym, ap, ◌∙◌, arith, length, take, ◌++◌}
+use Rattle.std.proofs.Common.{◌≡◌, ◌-◌, ◌+◌, ◌*◌, sym, ap, ◌∙◌, arith, length, take, ◌++◌}
 use Rattle.std.proofs.lemmas.List.{take-take}
 use Rattle.aes_core.specs.KeyExpansion.{extended_key, key_expansion}
 use Rattle.aes_core.proofs.KeyLemmas.{size_bounds, first_constant, same_constant, next_constant, extended_key_more, length-next_word, take-extended_key}
@@ -20,15 +20,15 @@ loop-i-preserved c =
     let nk = c.args.nk in
     let i = c.loop-i.i in
     let long : 4 * i + length c.next_word-word.result ≡ 4 * (i + 1) =
-        omega (arith, ap length c.next_word-word.ensures, length-next_word nk i (take (4 * i) c.loop-i.w)) in
+    omega (arith, ap length c.next_word-word.ensures, length-next_word nk i (take (4 * i) c.loop-i.w)) in
     record {
       words =
           rw (extended_key_more nk c.args.key.now i c.loop-i.auto.i, ← c.loop-i.invariant.words)
-            (rw long at c.write_at-in-loop-i.ensures ∙ ap (λ w. take (4 * i) c.loop-i.w ++ w) c.next_word-word.ensures);
+          (rw long at c.write_at-in-loop-i.ensures ∙ ap (λ w. take (4 * i) c.loop-i.w ++ w) c.next_word-word.ensures);
       constant = elim c.if-i-nk-eq0.branch [
         | then-i-nk-eq0 w ↦
             rw (w.constant-is, w.times_x-constant.ensures)
-              (next_constant nk i c.loop-i.constant c.requires.size c.loop-i.auto.i w.if-i-nk-eq0.true c.loop-i.invariant.constant)
+            (next_constant nk i c.loop-i.constant c.requires.size c.loop-i.auto.i w.if-i-nk-eq0.true c.loop-i.invariant.constant)
         | else-i-nk-eq0 w ↦
             rw w.constant-is (same_constant nk i c.loop-i.constant c.requires.size (omega (arith, size_bounds nk c.requires.size)) w.if-i-nk-eq0.false c.loop-i.invariant.constant)
       ];

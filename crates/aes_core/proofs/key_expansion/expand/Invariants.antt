@@ -1,4 +1,4 @@
-use Rattle.std.proofs.Common.{◌≡◌, ◌-◌, ◌*◌, ◌/◌, length, take}
+use Rattle.std.proofs.Common.{◌≡◌, ◌-◌, ◌*◌, ◌/◌, take}
 use Rattle.aes_core.specs.Field.{power}
 use Rattle.aes_core.specs.KeyExpansion.{extended_key}
 use Rattle.aes_core.proofs.key_expansion.expand.Given as goal

@@ -1,5 +1,4 @@
-use Rattle.std.proofs.Common.{◌≡◌, ◌≤◌, ◌-◌, List, ℕ, ap, ◌∙◌, arith}
-use Rattle.aes_core.specs.State.{inverse_sub_bytes, inverse_shift_rows, inverse_mix_columns, add_round_key}
+use Rattle.std.proofs.Common.{◌≡◌, ◌-◌, arith}
 use Rattle.aes_core.specs.Cipher.{inverse_rounds, decryption}
 use Rattle.aes_core.proofs.RoundLemmas.{inverse_rounds_more}
 use Rattle.aes_core.proofs.rounds.decryption.Goals as goal

@@ -1,4 +1,4 @@
-use Rattle.std.proofs.Common.{◌≡◌, ◌-◌, length}
+use Rattle.std.proofs.Common.{◌≡◌, ◌-◌}
 use Rattle.aes_core.specs.State.{add_round_key}
 use Rattle.aes_core.specs.Cipher.{inverse_rounds}
 use Rattle.aes_core.proofs.rounds.decryption.Given as goal

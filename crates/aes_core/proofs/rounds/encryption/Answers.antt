@@ -1,5 +1,5 @@
-use Rattle.std.proofs.Common.{◌≡◌, ◌≤◌, ◌-◌, List, ℕ, ap, ◌∙◌, arith}
-use Rattle.aes_core.specs.State.{sub_bytes, shift_rows, mix_columns, add_round_key}
+use Rattle.std.proofs.Common.{◌≡◌, arith}
+use Rattle.aes_core.specs.State.{add_round_key}
 use Rattle.aes_core.specs.Cipher.{rounds, encryption}
 use Rattle.aes_core.proofs.RoundLemmas.{rounds_more}
 use Rattle.aes_core.proofs.rounds.encryption.Goals as goal

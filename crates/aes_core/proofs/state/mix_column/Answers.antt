@@ -1,4 +1,4 @@
-use Rattle.std.proofs.Common.{◌<◌, ℕ, slice_index, arith}
+use Rattle.std.proofs.Common.{ℕ, slice_index, arith}
 use Rattle.aes_core.proofs.MixLemmas.{product_by_1, product_by_2, product_by_3}
 use Rattle.aes_core.proofs.state.mix_column.Goals as goal
 
