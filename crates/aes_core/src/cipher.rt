@@ -23,7 +23,9 @@ impl<const NK: usize> Model for Aes<NK> {
 
     ghost view = { λ a. take (4 * NK) a.round_keys };
 
-    ghost invariant = { λ a. IsKey NK (take (4 * NK) a.round_keys) × (take (16 * (NK + 7)) a.round_keys ≡ key_expansion NK (take (4 * NK) a.round_keys)) };
+    // The round keys are the expansion of the key that they begin with.
+    ghost invariant = { λ a. IsKey NK (take (4 * NK) a.round_keys)
+        × (take (16 * (NK + 7)) a.round_keys ≡ key_expansion NK (take (4 * NK) a.round_keys)) };
 }
 
 impl<const NK: usize> Aes<NK> {

@@ -13,7 +13,9 @@ pub fn decryption_undoes_encryption()
 /// A block of 16 bytes comes out, whatever goes in.
 pub fn blocks_have_sixteen_bytes()
     ensures encrypted { (nk : ℕ) (key block : List ℕ) → length (cipher nk key block) ≡ 16 }
-    ensures encrypted_bytes { (nk : ℕ) (key block : List ℕ) → IsKey nk key → All (λ b. b < 256) (cipher nk key block) }
+    ensures encrypted_bytes { (nk : ℕ) (key block : List ℕ) → IsKey nk key
+        → All (λ b. b < 256) (cipher nk key block) }
     ensures decrypted { (nk : ℕ) (key block : List ℕ) → length (inverse_cipher nk key block) ≡ 16 }
-    ensures decrypted_bytes { (nk : ℕ) (key block : List ℕ) → IsKey nk key → All (λ b. b < 256) (inverse_cipher nk key block) }
+    ensures decrypted_bytes { (nk : ℕ) (key block : List ℕ) → IsKey nk key
+        → All (λ b. b < 256) (inverse_cipher nk key block) }
 {}

@@ -23,6 +23,7 @@ pub(crate) fn encryption(w: &[u8], nr: usize, block: &mut [u8; 16])
     }
     sub_bytes(block);
     shift_rows(block);
+    // The last round has no multiplication.
     add_round_key(w, nr, block);
 }
 

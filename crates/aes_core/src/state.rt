@@ -30,26 +30,10 @@ pub(crate) fn inverse_sub_bytes(state: &mut [u8; 16])
 pub(crate) fn shift_rows(state: &mut [u8; 16])
     ensures { state.new ≡ shift_rows state.old }
 {
-    let [
-        a0,
-        a1,
-        a2,
-        a3,
-        b0,
-        b1,
-        b2,
-        b3,
-        c0,
-        c1,
-        c2,
-        c3,
-        d0,
-        d1,
-        d2,
-        d3,
-    ] = *state;
+    let s = *state;
     *state = [
-        a0, b1, c2, d3, b0, c1, d2, a3, c0, d1, a2, b3, d0, a1, b2, c3,
+        s[0], s[5], s[10], s[15], s[4], s[9], s[14], s[3], s[8], s[13], s[2], s[7], s[12], s[1],
+        s[6], s[11],
     ];
 }
 
@@ -58,26 +42,10 @@ pub(crate) fn shift_rows(state: &mut [u8; 16])
 pub(crate) fn inverse_shift_rows(state: &mut [u8; 16])
     ensures { state.new ≡ inverse_shift_rows state.old }
 {
-    let [
-        a0,
-        a1,
-        a2,
-        a3,
-        b0,
-        b1,
-        b2,
-        b3,
-        c0,
-        c1,
-        c2,
-        c3,
-        d0,
-        d1,
-        d2,
-        d3,
-    ] = *state;
+    let s = *state;
     *state = [
-        a0, d1, c2, b3, b0, a1, d2, c3, c0, b1, a2, d3, d0, c1, b2, a3,
+        s[0], s[13], s[10], s[7], s[4], s[1], s[14], s[11], s[8], s[5], s[2], s[15], s[12], s[9],
+        s[6], s[3],
     ];
 }
 
@@ -99,34 +67,18 @@ fn mix_column(column: [u8; 4]) -> [u8; 4]
 pub(crate) fn mix_columns(state: &mut [u8; 16])
     ensures { state.new ≡ mix_columns state.old }
 {
-    let [
-        a0,
-        a1,
-        a2,
-        a3,
-        b0,
-        b1,
-        b2,
-        b3,
-        c0,
-        c1,
-        c2,
-        c3,
-        d0,
-        d1,
-        d2,
-        d3,
-    ] = *state;
-    let [a0, a1, a2, a3] = mix_column([a0, a1, a2, a3]);
-    let [b0, b1, b2, b3] = mix_column([b0, b1, b2, b3]);
-    let [c0, c1, c2, c3] = mix_column([c0, c1, c2, c3]);
-    let [d0, d1, d2, d3] = mix_column([d0, d1, d2, d3]);
+    let s = *state;
+    let a = mix_column([s[0], s[1], s[2], s[3]]);
+    let b = mix_column([s[4], s[5], s[6], s[7]]);
+    let c = mix_column([s[8], s[9], s[10], s[11]]);
+    let d = mix_column([s[12], s[13], s[14], s[15]]);
     *state = [
-        a0, a1, a2, a3, b0, b1, b2, b3, c0, c1, c2, c3, d0, d1, d2, d3,
+        a[0], a[1], a[2], a[3], b[0], b[1], b[2], b[3], c[0], c[1], c[2], c[3], d[0], d[1], d[2],
+        d[3],
     ];
 }
 
-// Word 4 n + c of the expanded key is added to column c.
+// Round key n of the expanded key w, which is its bytes from 16 n on, is added.
 pub(crate) fn add_round_key(w: &[u8], n: usize, state: &mut [u8; 16])
     requires { 16 * n + 16 ≤ length w.now }
     ensures { state.new ≡ add_round_key w.now n state.old }
@@ -172,29 +124,13 @@ fn unmix_column(column: [u8; 4]) -> [u8; 4]
 pub(crate) fn inverse_mix_columns(state: &mut [u8; 16])
     ensures { state.new ≡ inverse_mix_columns state.old }
 {
-    let [
-        a0,
-        a1,
-        a2,
-        a3,
-        b0,
-        b1,
-        b2,
-        b3,
-        c0,
-        c1,
-        c2,
-        c3,
-        d0,
-        d1,
-        d2,
-        d3,
-    ] = *state;
-    let [a0, a1, a2, a3] = unmix_column([a0, a1, a2, a3]);
-    let [b0, b1, b2, b3] = unmix_column([b0, b1, b2, b3]);
-    let [c0, c1, c2, c3] = unmix_column([c0, c1, c2, c3]);
-    let [d0, d1, d2, d3] = unmix_column([d0, d1, d2, d3]);
+    let s = *state;
+    let a = unmix_column([s[0], s[1], s[2], s[3]]);
+    let b = unmix_column([s[4], s[5], s[6], s[7]]);
+    let c = unmix_column([s[8], s[9], s[10], s[11]]);
+    let d = unmix_column([s[12], s[13], s[14], s[15]]);
     *state = [
-        a0, a1, a2, a3, b0, b1, b2, b3, c0, c1, c2, c3, d0, d1, d2, d3,
+        a[0], a[1], a[2], a[3], b[0], b[1], b[2], b[3], c[0], c[1], c[2], c[3], d[0], d[1], d[2],
+        d[3],
     ];
 }

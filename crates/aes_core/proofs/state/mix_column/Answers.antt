@@ -8,4 +8,17 @@ returns c =
     let b : ℕ = slice_index c.args.column 1 in
     let x : ℕ = slice_index c.args.column 2 in
     let y : ℕ = slice_index c.args.column 3 in
-    cc (product_by_1 a (omega arith), product_by_2 a (omega arith), product_by_3 a (omega arith), product_by_1 b (omega arith), product_by_2 b (omega arith), product_by_3 b (omega arith), product_by_1 x (omega arith), product_by_2 x (omega arith), product_by_3 x (omega arith), product_by_1 y (omega arith), product_by_2 y (omega arith), product_by_3 y (omega arith))
+    cc (
+      product_by_1 a (omega arith),
+      product_by_2 a (omega arith),
+      product_by_3 a (omega arith),
+      product_by_1 b (omega arith),
+      product_by_2 b (omega arith),
+      product_by_3 b (omega arith),
+      product_by_1 x (omega arith),
+      product_by_2 x (omega arith),
+      product_by_3 x (omega arith),
+      product_by_1 y (omega arith),
+      product_by_2 y (omega arith),
+      product_by_3 y (omega arith),
+    )
