@@ -1,9 +1,8 @@
 -- What the calls make, as equations of plain lists.
-use Rattle.std.proofs.Common.{◌≡◌, ℕ, ◌+◌, ◌-◌, ◌≤◌, List, ◌++◌, IsTrue, true, false, length, take, drop, refl, sym, ap, ◌∙◌, arith}
-use Rattle.std.proofs.lemmas.List.{drop_at, drop_all, take_all, append-nil, length-drop, length-take-le}
+use Rattle.std.proofs.Common.{◌≡◌, ℕ, List, ◌++◌, length, take, drop, refl, sym, ap, ◌∙◌, arith}
+use Rattle.std.proofs.lemmas.List.{take_all, length-drop}
 use Rattle.aes_core.specs.Cipher.{cipher, inverse_cipher}
-use Rattle.key_wrap.specs.KeyWrap.{Registers, registers, IsWrappable, initial_value, xor_bytes, step_bytes, place, group, with_group, step_count, wrap_step, wrap_steps, wrap, unwrap_step, unwrap_steps, unwrap}
-use borrow.Rule.Slice.PartMut.{put_mid}
+use Rattle.key_wrap.specs.KeyWrap.{registers, initial_value, xor_bytes, step_bytes, place, group, with_group, step_count, wrap_step, wrap_steps, wrap, unwrap_step, unwrap_steps, unwrap}
 
 -- one step of wrapping, by its parts
 pub wrap_step_by : (nk : ℕ) (kek : List ℕ) (t : ℕ) (a r part block after first last a' r' : List ℕ)

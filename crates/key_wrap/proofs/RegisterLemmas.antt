@@ -1,5 +1,5 @@
 -- A register read and written.
-use Rattle.std.proofs.Common.{◌≡◌, ℕ, ◌+◌, ◌-◌, ◌*◌, ◌/◌, ◌%◌, ◌<◌, ◌≤◌, List, [], ◌∷◌, ◌++◌, length, take, drop, refl, sym, ap, ◌∙◌, arith, length-append, length-take, length-drop, append_assoc, append-nil}
+use Rattle.std.proofs.Common.{◌≡◌, ℕ, ◌+◌, ◌-◌, ◌/◌, ◌%◌, ◌<◌, ◌≤◌, List, ◌++◌, length, take, drop, refl, sym, ap, ◌∙◌, arith, length-append, length-take, length-drop, append_assoc, append-nil}
 use Rattle.std.proofs.lemmas.List.{take_at, drop_at, drop_all, drop-drop, take-append-drop, length-take-le}
 use Rattle.std.proofs.lemmas.Nat.{mod_below}
 use Rattle.key_wrap.specs.KeyWrap.{place, group, with_group}
@@ -30,13 +30,13 @@ module _ (r : List ℕ) (p : ℕ) (within : p + 8 ≤ length r) where
   pub group-with_group : (x : List ℕ) → length x ≡ 8 → group (with_group r p x) p ≡ x
   group-with_group x e =
       rw (append_assoc (take p r) x (drop (p + 8) r), drop_at (take p r) (x ++ drop (p + 8) r) p front)
-        (take_at x (drop (p + 8) r) 8 e)
+      (take_at x (drop (p + 8) r) 8 e)
 
   -- a register written with what it held before the last write
   pub with_group-undone : (x : List ℕ) → length x ≡ 8 → with_group (with_group r p x) p (group r p) ≡ r
   with_group-undone x e =
       let both : length (take p r ++ x) ≡ p + 8 = omega (arith, length-append (take p r) x, front) in
       let rest : take 8 (drop p r) ++ drop (p + 8) r ≡ drop p r =
-          ap (λ d. take 8 (drop p r) ++ d) (sym (drop-drop 8 p r)) ∙ take-append-drop 8 (drop p r) in
+      ap (λ d. take 8 (drop p r) ++ d) (sym (drop-drop 8 p r)) ∙ take-append-drop 8 (drop p r) in
       rw (drop_at (take p r ++ x) (drop (p + 8) r) (p + 8) both, append_assoc (take p r) x (drop (p + 8) r), take_at (take p r) (x ++ drop (p + 8) r) p front, append_assoc (take p r) (take 8 (drop p r)) (drop (p + 8) r), rest)
-        (take-append-drop p r)
+      (take-append-drop p r)

@@ -1,9 +1,9 @@
 -- A step of unwrapping undoes that of wrapping, and so do all steps.
-use Rattle.std.proofs.Common.{◌≡◌, ℕ, zero, suc, ◌+◌, ◌-◌, ◌*◌, ◌/◌, ◌%◌, ◌<◌, ◌≤◌, List, ◌++◌, All, length, take, drop, refl, sym, ap, ◌∙◌, arith, length-append, length-take, length-drop}
+use Rattle.std.proofs.Common.{◌≡◌, ℕ, zero, suc, ◌+◌, ◌-◌, ◌%◌, ◌<◌, ◌≤◌, List, ◌++◌, All, length, take, drop, refl, sym, ap, ◌∙◌, arith, length-append, length-take, length-drop}
 use Rattle.std.proofs.lemmas.List.{take_at, drop_at, take-append-drop}
 use Rattle.std.proofs.lemmas.List.Elements.{All-append, All-take, All-drop, All-replicate}
 use Rattle.aes_core.specs.Cipher.{cipher, inverse_cipher}
-use Rattle.key_wrap.specs.KeyWrap.{IsWrappable, initial_value, step_count, wrap, unwrap, Registers, registers, xor_bytes, step_bytes, place, group, with_group, wrap_step, wrap_steps, unwrap_step, unwrap_steps}
+use Rattle.key_wrap.specs.KeyWrap.{IsWrappable, initial_value, step_count, wrap, unwrap, Registers, registers, step_bytes, place, group, with_group, wrap_step, wrap_steps, unwrap_step, unwrap_steps}
 use Rattle.key_wrap.proofs.XorLemmas.{length-xor_bytes, xor_bytes_twice, All-xor_bytes, length-step_bytes, All-step_bytes}
 use Rattle.key_wrap.proofs.RegisterLemmas.{place_within, length-group, length-with_group, group-with_group, with_group-undone}
 
@@ -43,8 +43,8 @@ module _ (nk : ℕ) (kek : List ℕ) (sixteen : (block : List ℕ) → length (c
         check_bytes = All-xor_bytes (take 8 b) (step_bytes t) same (All-take (λ b. b < 256) 8 b (bytes a)) (All-step_bytes t);
         group_bytes =
             All-append (λ b. b < 256) (take p s.groups ++ drop 8 b) (drop (p + 8) s.groups)
-              (All-append (λ b. b < 256) (take p s.groups) (drop 8 b) (All-take (λ b. b < 256) p s.groups h.group_bytes) (All-drop (λ b. b < 256) 8 b (bytes a)))
-              (All-drop (λ b. b < 256) (p + 8) s.groups h.group_bytes);
+            (All-append (λ b. b < 256) (take p s.groups) (drop 8 b) (All-take (λ b. b < 256) p s.groups h.group_bytes) (All-drop (λ b. b < 256) 8 b (bytes a)))
+            (All-drop (λ b. b < 256) (p + 8) s.groups h.group_bytes);
       }
 
   IsState-wrap_steps : (t : ℕ) (s : Registers) → IsState s → IsState (wrap_steps nk kek t s)
@@ -71,9 +71,9 @@ module _ (nk : ℕ) (kek : List ℕ) (sixteen : (block : List ℕ) → length (c
       let kept : length (with_group s.groups p (drop 8 b)) ≡ length s.groups = length-with_group s.groups p within (drop 8 b) last in
       let long : length a ≡ 16 = omega (arith, length-append s.check (group s.groups p), length-group s.groups p within, h.eight) in
       let clean : All (λ b. b < 256) a =
-          All-append (λ b. b < 256) s.check (group s.groups p) h.check_bytes (All-take (λ b. b < 256) 8 (drop p s.groups) (All-drop (λ b. b < 256) p s.groups h.group_bytes)) in
+      All-append (λ b. b < 256) s.check (group s.groups p) h.check_bytes (All-take (λ b. b < 256) 8 (drop p s.groups) (All-drop (λ b. b < 256) p s.groups h.group_bytes)) in
       rw (kept, xor_bytes_twice (take 8 b) (step_bytes t) same, group-with_group s.groups p within (drop 8 b) last, take-append-drop 8 b, undone a long clean, take_at s.check (group s.groups p) 8 h.eight, drop_at s.check (group s.groups p) 8 h.eight, with_group-undone s.groups p within (drop 8 b) last)
-        refl
+      refl
 
   pub unwrap_steps-wrap_steps : (t : ℕ) (s : Registers) → IsState s → unwrap_steps nk kek t (wrap_steps nk kek t s) ≡ s
   unfolding wrap_steps unwrap_steps
@@ -81,23 +81,43 @@ module _ (nk : ℕ) (kek : List ℕ) (sixteen : (block : List ℕ) → length (c
   unwrap_steps-wrap_steps (suc t) s h =
       rw (unwrap_step-wrap_step (suc t) (wrap_steps nk kek t s) (IsState-wrap_steps t s h)) (unwrap_steps-wrap_steps t s h)
 
+  first_state : (key : List ℕ) → IsWrappable key → IsState (registers initial_value key)
+  first_state key k = record {
+    eight = refl;
+    some = omega (arith, k.at_least);
+    whole = k.whole;
+    check_bytes = All-replicate (λ b. b < 256) 8 0xa6 (omega arith);
+    group_bytes = k.has_bytes;
+  }
+
   -- what was wrapped is unwrapped
   pub unwrap-wrap : (key : List ℕ) → IsWrappable key → unwrap nk kek (wrap nk kek key) ≡ registers initial_value key
   unfolding wrap unwrap
   unwrap-wrap key k =
       let start : Registers = registers initial_value key in
-      let h : IsState start = record {
-        eight = refl;
-        some = omega (arith, k.at_least);
-        whole = k.whole;
-        check_bytes = All-replicate (λ b. b < 256) 8 0xa6 (omega arith);
-        group_bytes = k.has_bytes;
-      } in
       let end : Registers = wrap_steps nk kek (step_count key) start in
-      let state = IsState-wrap_steps (step_count key) start h in
-      let same : length end.groups ≡ length key = length-wrap_steps (step_count key) start h in
+      let state = IsState-wrap_steps (step_count key) start (first_state key k) in
+      let same : length end.groups ≡ length key = length-wrap_steps (step_count key) start (first_state key k) in
       rw (take_at end.check end.groups 8 state.eight, drop_at end.check end.groups 8 state.eight, same)
-        (unwrap_steps-wrap_steps (step_count key) start h)
+      (unwrap_steps-wrap_steps (step_count key) start (first_state key k))
+
+  -- a wrapped key has 8 bytes more
+  pub length-wrap : (key : List ℕ) → IsWrappable key → length (wrap nk kek key) ≡ length key + 8
+  unfolding wrap
+  length-wrap key k =
+      let start : Registers = registers initial_value key in
+      let end : Registers = wrap_steps nk kek (step_count key) start in
+      let state = IsState-wrap_steps (step_count key) start (first_state key k) in
+      let same : length end.groups ≡ length key = length-wrap_steps (step_count key) start (first_state key k) in
+      omega (arith, length-append end.check end.groups, state.eight, same)
+
+  pub All-wrap : (key : List ℕ) → IsWrappable key → All (λ b. b < 256) (wrap nk kek key)
+  unfolding wrap
+  All-wrap key k =
+      let start : Registers = registers initial_value key in
+      let end : Registers = wrap_steps nk kek (step_count key) start in
+      let state = IsState-wrap_steps (step_count key) start (first_state key k) in
+      All-append (λ b. b < 256) end.check end.groups state.check_bytes state.group_bytes
 
 -- ---- one step more, in the code's numbers
 

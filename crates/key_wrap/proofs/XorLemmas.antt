@@ -36,10 +36,10 @@ xor_bytes_twice (x ∷ xs) (y ∷ ys) e =
 pub All-xor_bytes : (xs ys : List ℕ) → length xs ≡ length ys → All (λ b. b < 256) xs → All (λ b. b < 256) ys → All (λ b. b < 256) (xor_bytes xs ys)
 All-xor_bytes xs ys e p q =
     All-from_get_or (λ b. b < 256) (xor_bytes xs ys) 0
-      (λ k lt.
-        let m = length-xor_bytes xs ys e in
-        rw (get_or-xor_bytes xs ys k e)
-          (xor_lt 8 (get_or xs k 0) (get_or ys k 0) (p k 0 (omega arith)) (q k 0 (omega arith))))
+    (λ k lt.
+    let m = length-xor_bytes xs ys e in
+    rw (get_or-xor_bytes xs ys k e)
+    (xor_lt 8 (get_or xs k 0) (get_or ys k 0) (p k 0 (omega arith)) (q k 0 (omega arith))))
 
 -- ---- the number of a step
 

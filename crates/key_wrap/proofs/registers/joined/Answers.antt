@@ -1,4 +1,4 @@
-use Rattle.std.proofs.Common.{◌∙◌, arith, refl, [], ◌∷◌}
+use Rattle.std.proofs.Common.{arith, refl, [], ◌∷◌}
 use Rattle.key_wrap.proofs.RegisterLemmas.{halves}
 use Rattle.key_wrap.proofs.registers.joined.Goals as goal
 

@@ -9,4 +9,4 @@ returns-clause-unwrapped g c =
     let at : ℕ = place r c.args.t in
     let eight : at + 8 - at ≡ 8 = omega arith in
     unwrap_step_by g.row.NK c.args.kek.now c.args.t c.args.check.now r _ _ _ _ _ _ _
-      (ap (λ n. take n (drop at r)) eight) c.add_step.ensures c.joined-block.ensures c.decrypt.ensures.decrypted c.copy_from_slice.ensures.after (last_half c.decrypt.new.block c.decrypt.array_long) c.put_group.ensures
+    (ap (λ n. take n (drop at r)) eight) c.add_step.ensures c.joined-block.ensures c.decrypt.ensures.decrypted c.copy_from_slice.ensures.after (last_half c.decrypt.new.block c.decrypt.array_long) c.put_group.ensures

@@ -1,4 +1,4 @@
-use Rattle.std.proofs.Common.{◌≡◌, ◌-◌, refl, arith}
+use Rattle.std.proofs.Common.{◌≡◌, ◌-◌, arith}
 use Rattle.key_wrap.specs.KeyWrap.{registers, unwrap_steps}
 use Rattle.key_wrap.proofs.StepLemmas.{unwrap_steps_more}
 use Rattle.key_wrap.proofs.registers.unwrap_steps.Goals as goal

@@ -1,4 +1,4 @@
-use Rattle.std.proofs.Common.{◌≡◌, ◌-◌, ◌<◌, ◌+◌, length}
+use Rattle.std.proofs.Common.{◌≡◌, ◌-◌, ◌<◌, ◌+◌}
 use Rattle.aes_core.specs.KeyExpansion.{IsKey}
 use Rattle.key_wrap.specs.KeyWrap.{registers, step_count, unwrap_steps}
 use Rattle.key_wrap.proofs.registers.unwrap_steps.Given as goal

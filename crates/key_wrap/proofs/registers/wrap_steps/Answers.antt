@@ -1,4 +1,4 @@
-use Rattle.std.proofs.Common.{◌≡◌, ◌-◌, refl, arith}
+use Rattle.std.proofs.Common.{refl, arith}
 use Rattle.key_wrap.specs.KeyWrap.{registers, wrap_steps}
 use Rattle.key_wrap.proofs.StepLemmas.{wrap_steps_more}
 use Rattle.key_wrap.proofs.registers.wrap_steps.Goals as goal

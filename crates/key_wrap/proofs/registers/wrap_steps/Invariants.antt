@@ -1,4 +1,4 @@
-use Rattle.std.proofs.Common.{◌≡◌, ◌-◌, length}
+use Rattle.std.proofs.Common.{◌≡◌, ◌-◌}
 use Rattle.key_wrap.specs.KeyWrap.{registers, wrap_steps}
 use Rattle.key_wrap.proofs.registers.wrap_steps.Given as goal
 
