@@ -1,6 +1,6 @@
 //! AES under a key.
 
-ghost use Rattle.std.specs.Prelude.{◌≡◌, ◌+◌, ◌*◌, ◌<◌, ◌↔◌, ℕ, List, All, length, IsSome, IfSome};
+ghost use Rattle.std.specs.Prelude.{◌≡◌, ◌*◌, ◌<◌, ◌↔◌, ℕ, List, All, length, IsSome, IfSome};
 ghost use Rattle.aes_core.specs.KeyExpansion.{IsKeySize, IsKey};
 ghost use Rattle.aes_core.specs.Cipher.{cipher, inverse_cipher};
 

@@ -1,6 +1,6 @@
 //! The expansion of a key into the words of the round keys (FIPS 197, section 5.2).
 
-ghost use Rattle.std.specs.Prelude.{◌≡◌, ◌+◌, ◌-◌, ◌*◌, ◌/◌, ◌%◌, ◌≤◌, ◌<◌, [], ◌∷◌, ◌++◌, length, take};
+ghost use Rattle.std.specs.Prelude.{◌≡◌, ◌+◌, ◌-◌, ◌*◌, ◌/◌, ◌%◌, ◌≤◌, ◌++◌, length, take};
 ghost use Rattle.aes_core.specs.Field.{power};
 ghost use Rattle.aes_core.specs.KeyExpansion.{IsKeySize, word_at, add_words, rot_word, sub_word, word_term, next_word, key_expansion};
 

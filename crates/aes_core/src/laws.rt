@@ -6,8 +6,8 @@ ghost use Rattle.aes_core.specs.Cipher.{cipher, inverse_cipher};
 
 /// Decryption undoes encryption, for every key and block.
 pub fn decryption_undoes_encryption()
-    ensures { (nk : ℕ) (key block : List ℕ) → IsKey nk key → length block ≡ 16 → All (λ b. b < 256) block
-        → inverse_cipher nk key (cipher nk key block) ≡ block }
+    ensures { (nk : ℕ) (key block : List ℕ) → IsKey nk key → length block ≡ 16
+        → All (λ b. b < 256) block → inverse_cipher nk key (cipher nk key block) ≡ block }
 {}
 
 /// A block of 16 bytes comes out, whatever goes in.

@@ -1,8 +1,8 @@
 //! The steps on the registers (RFC 3394, section 2.2): `check` is the register A, and `groups` are R1 to Rn.
 
-ghost use Rattle.std.specs.Prelude.{◌≡◌, ◌+◌, ◌-◌, ◌*◌, ◌/◌, ◌%◌, ◌<◌, ◌≤◌, ◌++◌, length, take, drop};
+ghost use Rattle.std.specs.Prelude.{◌≡◌, ◌+◌, ◌%◌, ◌≤◌, ◌++◌, length};
 ghost use Rattle.aes_core.specs.KeyExpansion.{IsKey};
-ghost use Rattle.key_wrap.specs.KeyWrap.{registers, xor_bytes, step_bytes, group, with_group, wrap_step, wrap_steps, unwrap_step, unwrap_steps, step_count};
+ghost use Rattle.key_wrap.specs.KeyWrap.{registers, xor_bytes, step_bytes, with_group, wrap_step, wrap_steps, unwrap_step, unwrap_steps, step_count};
 
 use aes_core::Aes;
 
@@ -56,7 +56,8 @@ pub(crate) fn wrap_steps<const NK: usize>(kek: &Aes<NK>, check: &mut [u8; 8], gr
     requires some { 8 ≤ length groups.old }
     requires most { length groups.old ≤ 64 }
     requires whole { length groups.old % 8 ≡ 0 }
-    ensures { wrap_steps NK kek.now (step_count groups.old) (registers check.old groups.old) ≡ registers check.new groups.new }
+    ensures { wrap_steps NK kek.now (step_count groups.old) (registers check.old groups.old)
+        ≡ registers check.new groups.new }
 {
     for t in 1..6 * (groups.len() / 8) + 1 {
         wrap_step(kek, t, check, groups);
@@ -69,7 +70,8 @@ fn unwrap_step<const NK: usize>(kek: &Aes<NK>, t: usize, check: &mut [u8; 8], gr
     requires whole { length groups.old % 8 ≡ 0 }
     requires step { 1 ≤ t }
     ensures key { IsKey NK kek.now }
-    ensures unwrapped { unwrap_step NK kek.now t (registers check.old groups.old) ≡ registers check.new groups.new }
+    ensures unwrapped { unwrap_step NK kek.now t (registers check.old groups.old)
+        ≡ registers check.new groups.new }
 {
     let at = 8 * ((t - 1) % (groups.len() / 8));
     add_step(check, t as u64);
@@ -85,7 +87,8 @@ pub(crate) fn unwrap_steps<const NK: usize>(kek: &Aes<NK>, check: &mut [u8; 8], 
     requires most { length groups.old ≤ 64 }
     requires whole { length groups.old % 8 ≡ 0 }
     ensures key { IsKey NK kek.now }
-    ensures unwrapped { unwrap_steps NK kek.now (step_count groups.old) (registers check.old groups.old) ≡ registers check.new groups.new }
+    ensures unwrapped { unwrap_steps NK kek.now (step_count groups.old) (registers check.old groups.old)
+        ≡ registers check.new groups.new }
 {
     for t in (1..6 * (groups.len() / 8) + 1).rev() {
         unwrap_step(kek, t, check, groups);

@@ -1,6 +1,6 @@
 //! Keys wrapped and unwrapped.
 
-ghost use Rattle.std.specs.Prelude.{◌≡◌, ◌+◌, ◌-◌, ◌%◌, ◌≤◌, ◌↔◌, ◌++◌, ℕ, List, IsTrue, length, take, drop, replicate};
+ghost use Rattle.std.specs.Prelude.{◌≡◌, ◌+◌, ◌%◌, ◌≤◌, ◌↔◌, ℕ, List, IsTrue, length, replicate};
 ghost use Rattle.std.specs.Bool.{OnTrue, OnFalse};
 ghost use Rattle.key_wrap.specs.KeyWrap.{IsWrappable, registers, initial_value, wrap, unwrap};
 
