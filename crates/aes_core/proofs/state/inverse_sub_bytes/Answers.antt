@@ -1,0 +1,11 @@
+use Rattle.std.proofs.Common.{get_or, arith}
+use Rattle.aes_core.specs.Boxes.{inverse_sub_byte}
+use Rattle.aes_core.specs.State.{inverse_sub_bytes, state_of}
+use Rattle.aes_core.proofs.StateLemmas.{sixteen}
+use Rattle.aes_core.proofs.state.inverse_sub_bytes.Goals as goal
+
+pub returns : goal.returns
+unfolding inverse_sub_bytes state_of
+returns c =
+    sixteen (λ k. inverse_sub_byte (get_or c.args.state.now k 0)) c.loop-byte.state c.loop-byte.invariant.sixteen
+    (λ k h. c.loop-byte.invariant.done k (omega arith))

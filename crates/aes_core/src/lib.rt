@@ -1,0 +1,17 @@
+//! AES, the block cipher of FIPS 197, with keys of 128 and 256 bits. Nothing here takes memory.
+
+#![tactic(auto)]
+
+mod boxes;
+mod cipher;
+mod field;
+mod key_expansion;
+mod laws;
+mod rounds;
+mod state;
+
+pub use cipher::Aes;
+pub use laws::{blocks_have_sixteen_bytes, decryption_undoes_encryption};
+
+#[cfg(test)]
+mod tests;

@@ -1,0 +1,55 @@
+//! The example vectors of FIPS 197, appendix C.
+
+use crate::Aes;
+use std::test::Fail;
+
+const PLAIN: [u8; 16] = [
+    0x00, 0x11, 0x22, 0x33, 0x44, 0x55, 0x66, 0x77, 0x88, 0x99, 0xaa, 0xbb, 0xcc, 0xdd, 0xee, 0xff,
+];
+
+const KEY: [u8; 32] = [
+    0x00, 0x01, 0x02, 0x03, 0x04, 0x05, 0x06, 0x07, 0x08, 0x09, 0x0a, 0x0b, 0x0c, 0x0d, 0x0e, 0x0f,
+    0x10, 0x11, 0x12, 0x13, 0x14, 0x15, 0x16, 0x17, 0x18, 0x19, 0x1a, 0x1b, 0x1c, 0x1d, 0x1e, 0x1f,
+];
+
+// Appendix C.1.
+#[test]
+fn a_block_under_128_bits(rt: HostRuntime) -> Result<(), Fail> {
+    let aes = Aes::<4>::new(&KEY[..16]).ok_or("the key")?;
+    let mut block = PLAIN;
+    aes.encrypt(&mut block);
+    assert_eq!(rt;
+        block,
+        [
+            0x69, 0xc4, 0xe0, 0xd8, 0x6a, 0x7b, 0x04, 0x30, 0xd8, 0xcd, 0xb7, 0x80, 0x70, 0xb4,
+            0xc5, 0x5a,
+        ]
+    );
+    aes.decrypt(&mut block);
+    assert_eq!(rt; block, PLAIN);
+    Ok(())
+}
+
+// Appendix C.3.
+#[test]
+fn a_block_under_256_bits(rt: HostRuntime) -> Result<(), Fail> {
+    let aes = Aes::<8>::new(&KEY).ok_or("the key")?.copy();
+    let mut block = PLAIN;
+    aes.encrypt(&mut block);
+    assert_eq!(rt;
+        block,
+        [
+            0x8e, 0xa2, 0xb7, 0xca, 0x51, 0x67, 0x45, 0xbf, 0xea, 0xfc, 0x49, 0x90, 0x4b, 0x49,
+            0x60, 0x89,
+        ]
+    );
+    aes.decrypt(&mut block);
+    assert_eq!(rt; block, PLAIN);
+    Ok(())
+}
+
+#[test]
+fn a_key_of_another_length(rt: HostRuntime) {
+    assert!(rt; Aes::<4>::new(&KEY).is_none());
+    assert!(rt; Aes::<8>::new(&KEY[..16]).is_none());
+}

@@ -1,0 +1,4 @@
+pub mod XorLemmas
+pub mod RegisterLemmas
+pub mod StepLemmas
+pub mod CallLemmas
