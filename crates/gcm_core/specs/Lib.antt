@@ -1,0 +1,3 @@
+pub mod Polynomial
+pub mod Block
+pub mod Counter

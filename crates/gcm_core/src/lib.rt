@@ -1,0 +1,4 @@
+//! AES-GCM.
+#![tactic(auto)]
+
+mod hash;
