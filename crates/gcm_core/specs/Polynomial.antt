@@ -1,16 +1,20 @@
 -- Polynomials over the field of two elements. A polynomial is the list of its coefficients, that of x ^ 0 first.
-use Rattle.std.specs.Prelude.{◌≡◌, ℕ, ◌+◌, Bool, true, false, ◌&&◌, List, [], ◌∷◌, ◌++◌, length, map, take, replicate, slice_index_or}
-use Rattle.std.specs.Bool.{xor}
+use Rattle.std.specs.Prelude.{◌≡◌, ℕ, ◌+◌, Bool, true, false, not, ◌&&◌, List, [], ◌∷◌, ◌++◌, length, map, take, replicate, slice_index_or}
 
 -- the coefficient of x ^ i
 abbrev pub coefficient : List Bool → ℕ → Bool
 coefficient p i = slice_index_or p i false
 
+-- the sum of two coefficients
+abbrev pub coefficient_sum : Bool → Bool → Bool
+coefficient_sum false b = b
+coefficient_sum true b = not b
+
 -- p + q
 abbrev pub polynomial_sum : List Bool → List Bool → List Bool
 polynomial_sum [] q = q
 polynomial_sum (a ∷ p) [] = a ∷ p
-polynomial_sum (a ∷ p) (b ∷ q) = xor a b ∷ polynomial_sum p q
+polynomial_sum (a ∷ p) (b ∷ q) = coefficient_sum a b ∷ polynomial_sum p q
 
 -- a q, for a coefficient a
 abbrev pub polynomial_scaled : Bool → List Bool → List Bool

@@ -23,7 +23,7 @@ fn product(left: u128, right: u128) -> u128
     ensures { bits 128 result ≡ block_product (bits 128 left) (bits 128 right) }
 {
     let mut sum: u128 = 0;
-    for place in 0..128 {
+    for place in 0..128u32 {
         sum = times_x(sum);
         if (left >> place) & 1 == 1 {
             sum ^= right;
