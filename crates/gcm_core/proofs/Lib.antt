@@ -1,3 +1,4 @@
+pub mod BlockLemmas
 pub mod BitsLemmas
 pub mod PolynomialLemmas
 pub mod Remainders
