@@ -1,6 +1,6 @@
--- Blocks of 16 bytes as polynomials, their product, and GHASH (NIST SP 800-38D, sections 6.3 and 6.4).
-use Rattle.std.specs.Prelude.{ℕ, zero, suc, ◌+◌, ◌-◌, ◌*◌, ◌/◌, ◌%◌, ◌^◌, ◌==◌, Bool, true, false, if◌then◌else◌, List, [], ◌∷◌, ◌++◌, length, take, drop, replicate}
-use Rattle.gcm_core.specs.Polynomial.{polynomial_sum, polynomial_product, remainder}
+-- Blocks of 16 bytes as polynomials, and their product (NIST SP 800-38D, section 6.3).
+use Rattle.std.specs.Prelude.{ℕ, zero, suc, ◌+◌, ◌/◌, ◌%◌, ◌^◌, ◌==◌, Bool, true, false, if◌then◌else◌, List, [], ◌∷◌, ◌++◌, replicate}
+use Rattle.gcm_core.specs.Polynomial.{polynomial_product, remainder}
 
 -- the lowest k bits of a number, the leftmost first
 unfoldable pub bits : ℕ → ℕ → List Bool
@@ -29,17 +29,3 @@ low_terms = true ∷ true ∷ true ∷ false ∷ false ∷ false ∷ false ∷ t
 -- the product of two blocks as polynomials (6.3)
 unfoldable pub block_product : List Bool → List Bool → List Bool
 block_product p q = remainder low_terms (polynomial_product p q)
-
--- GHASH of the first n blocks, with the subkey h: Y = 0, and Y becomes (Y + X) h for each block X (6.4)
-unfoldable pub hash_of_blocks : List Bool → List ℕ → ℕ → List Bool
-hash_of_blocks h bytes zero = bits 128 0
-hash_of_blocks h bytes (suc n) =
-    block_product (polynomial_sum (hash_of_blocks h bytes n) (polynomial_of (take 16 (drop (16 * n) bytes)))) h
-
--- GHASH of bytes that are whole blocks (6.4)
-abbrev pub ghash : List Bool → List ℕ → List Bool
-ghash h bytes = hash_of_blocks h bytes (length bytes / 16)
-
--- the bytes, filled with zero bytes to whole blocks (7.1)
-abbrev pub filled : List ℕ → List ℕ
-filled bytes = bytes ++ replicate ((16 - length bytes % 16) % 16) 0

@@ -1,3 +1,6 @@
 pub mod Polynomial
 pub mod Block
+pub mod Hash
 pub mod Counter
+pub mod Gcm
+pub mod State
