@@ -42,6 +42,18 @@ value (b ∷ bytes) = b * 256 ^ length bytes + value bytes
 abbrev pub Bytes : List ℕ → Type 0
 Bytes bytes = AllByRecursion (λ b. b < 256) bytes
 
+pub Bytes_from : (bytes : List ℕ) → ((i : ℕ) → get_or bytes i 0 < 256) → Bytes bytes
+Bytes_from [] h = tt
+Bytes_from (b ∷ bytes) h = (h 0, Bytes_from bytes (λ i. h (suc i)))
+
+pub Bytes-append : (a b : List ℕ) → Bytes a → Bytes b → Bytes (a ++ b)
+Bytes-append [] b h g = g
+Bytes-append (x ∷ a) b h g = (h.0, Bytes-append a b h.1 g)
+
+pub Bytes_zeros : (n : ℕ) → Bytes (replicate n 0)
+Bytes_zeros zero = tt
+Bytes_zeros (suc n) = (omega arith, Bytes_zeros n)
+
 value_below : (bytes : List ℕ) → Bytes bytes → value bytes < 256 ^ length bytes
 value_below [] h = omega arith
 value_below (b ∷ bytes) h = rw (pow-suc 256 (length bytes)) (mul-add-lt b (256 ^ length bytes) (value bytes) 256 h.0 (value_below bytes h.1))
@@ -79,6 +91,11 @@ worth_through (b ∷ bytes) top (suc j) h g =
 pub from_be_bytes_value : (bytes : List ℕ) → length bytes ≡ 16 → from_be_bytes w128 bytes ≡ value bytes
 from_be_bytes_value bytes h =
     worth_through bytes 15 15 (omega arith) (omega arith) ∙ rw (take_all 16 bytes (omega arith)) (omega arith)
+
+-- the number of a block has its bits
+pub bits-from_be_bytes : (bytes : List ℕ) → length bytes ≡ 16 → Bytes bytes → bits 128 (from_be_bytes w128 bytes) ≡ polynomial_of bytes
+bits-from_be_bytes bytes h b =
+    ap (bits 128) (from_be_bytes_value bytes h) ∙ ap (λ (n : ℕ). bits (8 * n) (value bytes)) (sym h) ∙ bits-value bytes b
 
 -- ---- a number to bytes
 

@@ -1,3 +1,4 @@
+pub mod HashLemmas
 pub mod BlockLemmas
 pub mod BitsLemmas
 pub mod PolynomialLemmas

@@ -48,11 +48,11 @@ pub(crate) fn absorb(subkey: u128, hash: u128, bytes: &[u8]) -> u128
     ensures { (before : List ℕ) → Hashes (bits 128 subkey) before hash
         → Hashes (bits 128 subkey) (before ++ filled bytes.now) result }
 {
-    let mut hash = hash;
+    let mut absorbed = hash;
     for block in 0..bytes.len().div_ceil(16) {
         let start = 16 * block;
         let end = bytes.len().min(start + 16);
-        hash = product(hash ^ filled_block(&bytes[start..end]), subkey);
+        absorbed = product(absorbed ^ filled_block(&bytes[start..end]), subkey);
     }
-    hash
+    absorbed
 }
