@@ -1,3 +1,4 @@
+pub mod CounterLemmas
 pub mod HashLemmas
 pub mod BlockLemmas
 pub mod BitsLemmas

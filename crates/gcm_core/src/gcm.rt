@@ -1,0 +1,69 @@
+//! Sealing and opening with additional data (NIST SP 800-38D, section 7).
+
+ghost use Rattle.std.specs.Prelude.{◌≡◌, ◌-◌, ◌^◌, ◌<◌, ◌≤◌, ◌↔◌, ◌++◌, ◌∷◌, ℕ, [], List, length, IsTrue};
+ghost use Rattle.std.specs.Bool.{OnTrue, OnFalse};
+ghost use Rattle.std.proofs.Common.{rules};
+ghost use Rattle.aes_core.specs.Cipher.{cipher};
+ghost use Rattle.gcm_core.specs.Gcm.{first_block, ciphered, tag_of};
+ghost use Rattle.gcm_core.specs.State.{HasTaken};
+
+use crate::counter::{add, encrypted, run_counter_mode};
+use crate::hash::absorb;
+use crate::tag::{first_block, is_same, lengths};
+use aes_core::Aes;
+use cbor_profile::Feed;
+use std::marker::Model;
+
+/// AES-GCM with a key of NK words, as it takes the additional data.
+#[derive(Drop)]
+pub struct Gcm<const NK: usize> {
+    aes: Aes<NK>,
+    subkey: u128,
+    hash: u128,
+    rest: [u8; 16],
+    fed: u64,
+}
+
+impl<const NK: usize> Model for Gcm<NK> {
+    ghost use Rattle.std.specs.Prelude.{◌≡◌};
+    ghost use Rattle.aes_core.specs.Cipher.{cipher};
+    ghost use Rattle.gcm_core.specs.Block.{bits};
+    ghost use Rattle.gcm_core.specs.Gcm.{hash_subkey};
+    ghost use Rattle.gcm_core.specs.State.{GcmState};
+
+    ghost Value = { GcmState };
+
+    ghost view = { λ g. record { key = g.aes; hash = g.hash; rest = g.rest; fed = g.fed } };
+
+    ghost invariant = { λ g. bits 128 g.subkey ≡ hash_subkey (cipher NK g.aes) };
+}
+
+impl<const NK: usize> Gcm<NK> {
+    /// With this key, and no additional data yet. Takes no memory.
+    pub fn new(key: &Aes<NK>) -> Gcm<NK>
+        ensures key { result.key ≡ key.now }
+        ensures none { HasTaken NK result [] }
+    {
+        Gcm {
+            aes: key.copy(),
+            subkey: u128::from_be_bytes(encrypted(key, &[0; 16])),
+            hash: 0,
+            rest: [0; 16],
+            fed: 0,
+        }
+    }
+
+    /// Takes one byte of additional data.
+    fn take(&mut self, byte: u8)
+        ensures taken { (aad : List ℕ) → HasTaken NK self.old aad → length aad < 2 ^ 61 - 1
+            → HasTaken NK self.new (aad ++ byte ∷ []) }
+        ensures key { self.new.key ≡ self.old.key }
+    {
+        let used = (self.fed % 16) as usize;
+        self.rest[used] = byte;
+        self.fed = self.fed.wrapping_add(1);
+        if used == 15 {
+            self.hash = absorb(self.subkey, self.hash, &self.rest);
+        }
+    }
+}

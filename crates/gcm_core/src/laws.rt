@@ -1,0 +1,1 @@
+//! Laws of sealing and opening, over every block cipher.

@@ -1,0 +1,47 @@
+//! The parts of an authentication tag (NIST SP 800-38D, section 7).
+
+ghost use Rattle.std.specs.Prelude.{◌≡◌, ◌*◌, ◌^◌, ◌%◌, ◌≤◌, ◌<◌, ◌↔◌, ◌++◌, length, IsTrue};
+ghost use Rattle.std.specs.Int.{w64, to_be_bytes};
+ghost use Rattle.aes_core.specs.Cipher.{cipher};
+ghost use Rattle.gcm_core.specs.Block.{bits};
+ghost use Rattle.gcm_core.specs.Gcm.{first_block, hash_subkey};
+
+use crate::hash::absorb;
+use aes_core::Aes;
+
+/// Two lengths in bytes, as the block of the lengths in bits.
+pub(crate) fn lengths(left: u64, right: u64) -> [u8; 16]
+    ensures { result ≡ to_be_bytes w64 (8 * left % 2 ^ 64) ++ to_be_bytes w64 (8 * right % 2 ^ 64) }
+{
+    let mut block = [0; 16];
+    block[..8].copy_from_slice(&left.wrapping_mul(8).to_be_bytes());
+    block[8..].copy_from_slice(&right.wrapping_mul(8).to_be_bytes());
+    block
+}
+
+/// The block before the first counter.
+pub(crate) fn first_block<const NK: usize>(aes: &Aes<NK>, subkey: u128, iv: &[u8]) -> [u8; 16]
+    requires subkey { bits 128 subkey ≡ hash_subkey (cipher NK aes.now) }
+    requires short { length iv.now ≤ 2 ^ 32 }
+    ensures { result ≡ first_block (cipher NK aes.now) iv.now }
+{
+    if iv.len() == 12 {
+        let mut block = [0; 16];
+        block[..12].copy_from_slice(iv);
+        block[15] = 1;
+        return block;
+    }
+    let hash = absorb(subkey, 0, iv);
+    absorb(subkey, hash, &lengths(0, iv.len() as u64)).to_be_bytes()
+}
+
+/// The tags are the same. Looks at all 16 bytes, wherever they differ.
+pub(crate) fn is_same(left: &[u8; 16], right: &[u8; 16]) -> bool
+    ensures { IsTrue result ↔ (left.now ≡ right.now) }
+{
+    let mut difference = 0;
+    for (place, byte) in left.iter().enumerate() {
+        difference |= byte ^ right[place];
+    }
+    difference == 0
+}
