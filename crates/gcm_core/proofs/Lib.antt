@@ -1,3 +1,5 @@
+pub mod StateLemmas
+pub mod TagLemmas
 pub mod CounterLemmas
 pub mod HashLemmas
 pub mod BlockLemmas

@@ -5,9 +5,9 @@ use Rattle.gcm_core.specs.Block.{polynomial_of, block_of}
 use Rattle.gcm_core.specs.Hash.{ghash, filled}
 use Rattle.gcm_core.specs.Counter.{counter_mode, bytes_sum}
 
--- a length in bits, as 8 bytes
-abbrev pub length_in_bits : List ℕ → List ℕ
-length_in_bits bytes = to_be_bytes w64 (8 * length bytes)
+-- the length in bits of n bytes, as 8 bytes
+unfoldable pub length_in_bits : ℕ → List ℕ
+length_in_bits n = to_be_bytes w64 (8 * n)
 
 -- the subkey of GHASH: the encrypted zero block (7.1, step 1)
 abbrev pub hash_subkey : (List ℕ → List ℕ) → List Bool
@@ -17,7 +17,7 @@ hash_subkey e = polynomial_of (e (replicate 16 0))
 unfoldable pub first_block : (List ℕ → List ℕ) → List ℕ → List ℕ
 first_block e iv =
     if length iv == 12 then iv ++ 0 ∷ 0 ∷ 0 ∷ 1 ∷ []
-    else block_of (ghash (hash_subkey e) (filled iv ++ replicate 8 0 ++ length_in_bits iv))
+    else block_of (ghash (hash_subkey e) (filled iv ++ (replicate 8 0 ++ length_in_bits (length iv))))
 
 -- the body under an initialisation vector, which is its own inverse (7.1, step 3; 7.2, step 5)
 unfoldable pub ciphered : (List ℕ → List ℕ) → List ℕ → List ℕ → List ℕ
@@ -27,7 +27,7 @@ ciphered e iv body = counter_mode e (first_block e iv) body
 unfoldable pub tag_of : (List ℕ → List ℕ) → List ℕ → List ℕ → List ℕ → List ℕ
 tag_of e iv aad ciphertext =
     bytes_sum (e (first_block e iv))
-        (block_of (ghash (hash_subkey e) (filled aad ++ filled ciphertext ++ (length_in_bits aad ++ length_in_bits ciphertext))))
+        (block_of (ghash (hash_subkey e) (filled aad ++ filled ciphertext ++ (length_in_bits (length aad) ++ length_in_bits (length ciphertext)))))
 
 -- sealing the body gives this ciphertext and this tag
 pub record Seals (e : List ℕ → List ℕ) (iv aad body ciphertext tag : List ℕ) : Type 0 where

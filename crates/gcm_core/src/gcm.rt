@@ -8,7 +8,7 @@ ghost use Rattle.gcm_core.specs.Gcm.{first_block, ciphered, tag_of};
 ghost use Rattle.gcm_core.specs.State.{HasTaken};
 
 use crate::counter::{add, encrypted, run_counter_mode};
-use crate::hash::absorb;
+use crate::hash::{absorb, filled_block};
 use crate::tag::{first_block, is_same, lengths};
 use aes_core::Aes;
 use cbor_profile::Feed;
@@ -46,7 +46,7 @@ impl<const NK: usize> Gcm<NK> {
     {
         Gcm {
             aes: key.copy(),
-            subkey: u128::from_be_bytes(encrypted(key, &[0; 16])),
+            subkey: filled_block(&encrypted(key, &[0; 16])),
             hash: 0,
             rest: [0; 16],
             fed: 0,
@@ -66,4 +66,37 @@ impl<const NK: usize> Gcm<NK> {
             self.hash = absorb(self.subkey, self.hash, &self.rest);
         }
     }
+
+    /// The tag of a ciphertext, under the block before the first counter.
+    fn tag(&self, first: &[u8; 16], ciphertext: &[u8]) -> [u8; 16]
+        ensures { (iv aad : List ℕ) → first.now ≡ first_block (cipher NK self.now.key) iv → HasTaken NK self.now aad
+            → result ≡ tag_of (cipher NK self.now.key) iv aad ciphertext.now }
+    {
+        let used = (self.fed % 16) as usize;
+        let hash = absorb(self.subkey, self.hash, &self.rest[..used]);
+        let hash = absorb(self.subkey, hash, ciphertext);
+        let lengths = lengths(self.fed, ciphertext.len() as u64);
+        let hash = absorb(self.subkey, hash, &lengths);
+        let mut tag = encrypted(&self.aes, first);
+        add(&mut tag, &hash.to_be_bytes());
+        tag
+    }
+}
+
+impl<const NK: usize> Feed for Gcm<NK> {
+    ghost stands_for = { HasTaken NK };
+
+    ghost fixed = { λ g. g.key };
+
+    ghost MOST = { 2 ^ 61 - 1 };
+
+    const MOST: u64 = (1 << 61) - 1;
+
+    fn feed(&mut self, piece: &[u8]) {
+        for byte in piece {
+            self.take(*byte);
+        }
+    }
+
+    ghost enough = { Prim.search rules };
 }

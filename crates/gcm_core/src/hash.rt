@@ -34,7 +34,7 @@ fn product(left: u128, right: u128) -> u128
 }
 
 /// At most 16 bytes as a block, filled with zero bytes.
-fn filled_block(bytes: &[u8]) -> u128
+pub(crate) fn filled_block(bytes: &[u8]) -> u128
     requires { length bytes.now ≤ 16 }
     ensures { bits 128 result ≡ polynomial_of (bytes.now ++ replicate (16 - length bytes.now) 0) }
 {

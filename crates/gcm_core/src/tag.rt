@@ -1,17 +1,16 @@
 //! The parts of an authentication tag (NIST SP 800-38D, section 7).
 
-ghost use Rattle.std.specs.Prelude.{◌≡◌, ◌*◌, ◌^◌, ◌%◌, ◌≤◌, ◌<◌, ◌↔◌, ◌++◌, length, IsTrue};
-ghost use Rattle.std.specs.Int.{w64, to_be_bytes};
+ghost use Rattle.std.specs.Prelude.{◌≡◌, ◌↔◌, ◌++◌, IsTrue};
 ghost use Rattle.aes_core.specs.Cipher.{cipher};
 ghost use Rattle.gcm_core.specs.Block.{bits};
-ghost use Rattle.gcm_core.specs.Gcm.{first_block, hash_subkey};
+ghost use Rattle.gcm_core.specs.Gcm.{first_block, hash_subkey, length_in_bits};
 
 use crate::hash::absorb;
 use aes_core::Aes;
 
 /// Two lengths in bytes, as the block of the lengths in bits.
 pub(crate) fn lengths(left: u64, right: u64) -> [u8; 16]
-    ensures { result ≡ to_be_bytes w64 (8 * left % 2 ^ 64) ++ to_be_bytes w64 (8 * right % 2 ^ 64) }
+    ensures { result ≡ length_in_bits left ++ length_in_bits right }
 {
     let mut block = [0; 16];
     block[..8].copy_from_slice(&left.wrapping_mul(8).to_be_bytes());
@@ -21,8 +20,7 @@ pub(crate) fn lengths(left: u64, right: u64) -> [u8; 16]
 
 /// The block before the first counter.
 pub(crate) fn first_block<const NK: usize>(aes: &Aes<NK>, subkey: u128, iv: &[u8]) -> [u8; 16]
-    requires subkey { bits 128 subkey ≡ hash_subkey (cipher NK aes.now) }
-    requires short { length iv.now ≤ 2 ^ 32 }
+    requires { bits 128 subkey ≡ hash_subkey (cipher NK aes.now) }
     ensures { result ≡ first_block (cipher NK aes.now) iv.now }
 {
     if iv.len() == 12 {

@@ -1,0 +1,77 @@
+-- What a sealer has taken, byte by byte.
+use Rattle.std.proofs.Common.{◌≡◌, ℕ, zero, suc, ◌+◌, ◌-◌, ◌*◌, ◌/◌, ◌%◌, ◌^◌, ◌<◌, ◌≤◌, Bool, List, [], ◌∷◌, ◌++◌, length, take, drop, set, replicate, refl, sym, ap, ◌∙◌, subst, arith, length-append, length-drop}
+use Rattle.std.proofs.lemmas.List.{append-nil, append_assoc, take-append-le, drop-append-le, take-append-drop, take_more_set, take_all, drop_all, length_push, length-set}
+use Rattle.aes_core.specs.Cipher.{cipher}
+use Rattle.gcm_core.specs.Block.{bits, polynomial_of}
+use Rattle.gcm_core.specs.Hash.{filled, Hashes}
+use Rattle.gcm_core.specs.Gcm.{hash_subkey}
+use Rattle.gcm_core.specs.State.{GcmState, whole_len, HasTaken}
+use Rattle.gcm_core.proofs.TagLemmas.{Hashes_none, filled_whole}
+
+-- the subkey as a number
+pub subkey_is : (e : List ℕ → List ℕ) (block : List ℕ) (number : ℕ) → block ≡ e (replicate 16 0) → length block ≡ 16
+    → bits 128 number ≡ polynomial_of (block ++ replicate (16 - length block) 0) → bits 128 number ≡ hash_subkey e
+subkey_is e block number b size h =
+    let none : block ++ replicate (16 - length block) 0 ≡ block = rw size (append-nil block) in
+    h ∙ ap polynomial_of (none ∙ b)
+
+-- a new one has taken nothing
+pub HasTaken_none : (nk : ℕ) (s : GcmState) → s.hash ≡ 0 → s.fed ≡ 0 → HasTaken nk s []
+HasTaken_none nk s h f = record {
+  within = omega arith;
+  count = f;
+  hashed = rw h (Hashes_none (hash_subkey (cipher nk s.key)));
+  kept = refl;
+}
+
+-- one byte more, which does not fill the block
+pub HasTaken_short : (nk : ℕ) (s t : GcmState) (aad : List ℕ) (byte : ℕ) → HasTaken nk s aad → length aad < 2 ^ 61 - 1 → length s.rest ≡ 16
+    → (s.fed % 16 ≡ 15 → ⊥) → t ≡ record { key = s.key; hash = s.hash; rest = set s.rest (s.fed % 16) byte; fed = (s.fed + 1) % 2 ^ 64 }
+    → HasTaken nk t (aad ++ byte ∷ [])
+HasTaken_short nk s t aad byte held few size open_ e =
+    let n : ℕ = length aad in
+    let more : length (aad ++ byte ∷ []) ≡ n + 1 = length_push aad byte in
+    let count : s.fed ≡ n = held.count in
+    let whole : whole_len (aad ++ byte ∷ []) ≡ whole_len aad = omega arith in
+    let used : length (aad ++ byte ∷ []) % 16 ≡ n % 16 + 1 = omega arith in
+    let front : take (whole_len aad) (aad ++ byte ∷ []) ≡ take (whole_len aad) aad = take-append-le (whole_len aad) aad (byte ∷ []) (omega arith) in
+    let back : drop (whole_len aad) (aad ++ byte ∷ []) ≡ drop (whole_len aad) aad ++ byte ∷ [] = drop-append-le (whole_len aad) aad (byte ∷ []) (omega arith) in
+    let kept : take (n % 16 + 1) (set s.rest (n % 16) byte) ≡ drop (whole_len aad) aad ++ byte ∷ [] =
+    take_more_set s.rest (n % 16) byte (omega arith) ∙ ap (λ (r : List ℕ). r ++ byte ∷ []) held.kept in
+    rw e (record {
+      within = omega arith;
+      count = omega arith;
+      hashed = rw (whole, front) held.hashed;
+      kept = rw (whole, used, back, count) kept;
+    })
+
+-- one byte more, which fills the block: the hash takes it in
+pub HasTaken_full : (nk : ℕ) (s t : GcmState) (aad : List ℕ) (byte subkey hash : ℕ) → HasTaken nk s aad → length aad < 2 ^ 61 - 1 → length s.rest ≡ 16
+    → s.fed % 16 ≡ 15 → bits 128 subkey ≡ hash_subkey (cipher nk s.key)
+    → ((before : List ℕ) → Hashes (bits 128 subkey) before s.hash → Hashes (bits 128 subkey) (before ++ filled (set s.rest (s.fed % 16) byte)) hash)
+    → t ≡ record { key = s.key; hash = hash; rest = set s.rest (s.fed % 16) byte; fed = (s.fed + 1) % 2 ^ 64 }
+    → HasTaken nk t (aad ++ byte ∷ [])
+HasTaken_full nk s t aad byte subkey hash held few size full h absorbed e =
+    let n : ℕ = length aad in
+    let more : length (aad ++ byte ∷ []) ≡ n + 1 = length_push aad byte in
+    let count : s.fed ≡ n = held.count in
+    let last : s.fed % 16 ≡ n % 16 = omega arith in
+    let whole : whole_len (aad ++ byte ∷ []) ≡ n + 1 = omega arith in
+    let block : set s.rest (s.fed % 16) byte ≡ drop (whole_len aad) aad ++ byte ∷ [] =
+    sym (take_all (n % 16 + 1) (set s.rest (s.fed % 16) byte) (omega (arith, length-set s.rest (s.fed % 16) byte)))
+    ∙ rw last (take_more_set s.rest (n % 16) byte (omega arith)) ∙ ap (λ (r : List ℕ). r ++ byte ∷ []) held.kept in
+    let block_size : length (set s.rest (s.fed % 16) byte) % 16 ≡ 0 = rw (length-set s.rest (s.fed % 16) byte, size) refl in
+    let grown : take (whole_len aad) aad ++ filled (set s.rest (s.fed % 16) byte) ≡ aad ++ byte ∷ [] =
+    rw (filled_whole (set s.rest (s.fed % 16) byte) block_size, block)
+    (sym (append_assoc (take (whole_len aad) aad) (drop (whole_len aad) aad) (byte ∷ [])) ∙ ap (λ (r : List ℕ). r ++ byte ∷ []) (take-append-drop (whole_len aad) aad)) in
+    let before : Hashes (bits 128 subkey) (take (whole_len aad) aad) s.hash = rw h held.hashed in
+    let after : Hashes (hash_subkey (cipher nk s.key)) (aad ++ byte ∷ []) hash = rw (h, grown) at (absorbed (take (whole_len aad) aad) before) in
+    let all : take (n + 1) (aad ++ byte ∷ []) ≡ aad ++ byte ∷ [] = take_all (n + 1) (aad ++ byte ∷ []) (omega arith) in
+    let none : drop (n + 1) (aad ++ byte ∷ []) ≡ [] = drop_all (n + 1) (aad ++ byte ∷ []) (omega arith) in
+    let used : length (aad ++ byte ∷ []) % 16 ≡ 0 = omega arith in
+    rw e (record {
+      within = omega arith;
+      count = omega arith;
+      hashed = rw (whole, all) after;
+      kept = rw (whole, used, none) refl;
+    })
