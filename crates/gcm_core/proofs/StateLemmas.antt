@@ -1,12 +1,14 @@
 -- What a sealer has taken, byte by byte.
-use Rattle.std.proofs.Common.{◌≡◌, ℕ, zero, suc, ◌+◌, ◌-◌, ◌*◌, ◌/◌, ◌%◌, ◌^◌, ◌<◌, ◌≤◌, Bool, List, [], ◌∷◌, ◌++◌, length, take, drop, set, replicate, refl, sym, ap, ◌∙◌, subst, arith, length-append, length-drop}
-use Rattle.std.proofs.lemmas.List.{append-nil, append_assoc, take-append-le, drop-append-le, take-append-drop, take_more_set, take_all, drop_all, length_push, length-set}
+use Rattle.std.proofs.Common.{◌≡◌, ℕ, zero, suc, ◌+◌, ◌-◌, ◌*◌, ◌/◌, ◌%◌, ◌^◌, ◌<◌, ◌≤◌, Bool, List, [], ◌∷◌, ◌++◌, length, take, drop, set, replicate, get_or, refl, sym, ap, ◌∙◌, subst, arith, length-append, length-drop}
+use Rattle.std.proofs.lemmas.List.{append-nil, append_assoc, take-append-le, drop-append-le, take-append-drop, take_more, take_more_set, take_all, drop_all, length_push, length-set}
 use Rattle.aes_core.specs.Cipher.{cipher}
 use Rattle.gcm_core.specs.Block.{bits, polynomial_of}
 use Rattle.gcm_core.specs.Hash.{filled, Hashes}
-use Rattle.gcm_core.specs.Gcm.{hash_subkey}
+use Rattle.std.specs.Int.{w128, to_be_bytes}
+use Rattle.gcm_core.specs.Counter.{bytes_sum}
+use Rattle.gcm_core.specs.Gcm.{hash_subkey, first_block, length_in_bits, tag_of}
 use Rattle.gcm_core.specs.State.{GcmState, whole_len, HasTaken}
-use Rattle.gcm_core.proofs.TagLemmas.{Hashes_none, filled_whole}
+use Rattle.gcm_core.proofs.TagLemmas.{Hashes_none, filled_whole, bytes_of_hash}
 
 -- the subkey as a number
 pub subkey_is : (e : List ℕ → List ℕ) (block : List ℕ) (number : ℕ) → block ≡ e (replicate 16 0) → length block ≡ 16
@@ -75,3 +77,41 @@ HasTaken_full nk s t aad byte subkey hash held few size full h absorbed e =
       hashed = rw (whole, all) after;
       kept = rw (whole, used, none) refl;
     })
+
+-- one byte more of a piece
+pub fed_more : (aad piece : List ℕ) (i : ℕ) → i < length piece → (aad ++ take i piece) ++ get_or piece i 0 ∷ [] ≡ aad ++ take (i + 1) piece
+fed_more aad piece i h = append_assoc aad (take i piece) (get_or piece i 0 ∷ []) ∙ ap (λ (t : List ℕ). aad ++ t) (sym (take_more piece i 0 h))
+
+-- the whole blocks and the bytes after them, filled, are the bytes, filled
+filled_rest : (aad rest : List ℕ) → rest ≡ drop (whole_len aad) aad → take (whole_len aad) aad ++ filled rest ≡ filled aad
+filled_rest aad rest e =
+    let used : length rest % 16 ≡ length aad % 16 = omega (arith, ap length e, length-drop (whole_len aad) aad) in
+    rw (used, e) (sym (append_assoc (take (whole_len aad) aad) (drop (whole_len aad) aad) (replicate ((16 - length aad % 16) % 16) 0))
+    ∙ ap (λ (t : List ℕ). t ++ replicate ((16 - length aad % 16) % 16) 0) (take-append-drop (whole_len aad) aad))
+
+-- the hash under the subkey goes on by these bytes, from one number to the next
+abbrev pub GoesOn : ℕ → List ℕ → ℕ → ℕ → Type 0
+GoesOn subkey bytes from to = (before : List ℕ) → Hashes (bits 128 subkey) before from → Hashes (bits 128 subkey) (before ++ filled bytes) to
+
+module _ (nk : ℕ) (s : GcmState) (iv aad ciphertext first lengths block stream tag : List ℕ) (subkey after_aad after_ciphertext after_lengths : ℕ)
+    (key : bits 128 subkey ≡ hash_subkey (cipher nk s.key)) (a : GoesOn subkey (take (s.fed % 16) s.rest) s.hash after_aad)
+    (b : GoesOn subkey ciphertext after_aad after_ciphertext) (c : GoesOn subkey lengths after_ciphertext after_lengths)
+    (l : lengths ≡ length_in_bits s.fed ++ length_in_bits (length ciphertext)) (size : length lengths ≡ 16)
+    (e : stream ≡ cipher nk s.key first) (n : block ≡ to_be_bytes w128 after_lengths) (t : tag ≡ bytes_sum stream block) where
+  tag_of_state : HasTaken nk s aad → first ≡ first_block (cipher nk s.key) iv → tag ≡ tag_of (cipher nk s.key) iv aad ciphertext
+  unfolding tag_of
+  tag_of_state held f =
+      let last : s.fed % 16 ≡ length aad % 16 = ap (λ (m : ℕ). m % 16) held.count in
+      let rest : take (s.fed % 16) s.rest ≡ drop (whole_len aad) aad = ap (λ (m : ℕ). take m s.rest) last ∙ held.kept in
+      let start : Hashes (bits 128 subkey) (take (whole_len aad) aad) s.hash = rw key held.hashed in
+      let taken : take (whole_len aad) aad ++ filled (take (s.fed % 16) s.rest) ≡ filled aad = filled_rest aad (take (s.fed % 16) s.rest) rest in
+      let one : Hashes (bits 128 subkey) (filled aad) after_aad = rw taken at (a (take (whole_len aad) aad) start) in
+      let spelled : filled lengths ≡ length_in_bits (length aad) ++ length_in_bits (length ciphertext) =
+      filled_whole lengths (rw size refl) ∙ l ∙ ap (λ (m : ℕ). length_in_bits m ++ length_in_bits (length ciphertext)) held.count in
+      let all : Hashes (hash_subkey (cipher nk s.key)) (filled aad ++ filled ciphertext ++ (length_in_bits (length aad) ++ length_in_bits (length ciphertext))) after_lengths =
+      rw (key, spelled) at (c (filled aad ++ filled ciphertext) (b (filled aad) one)) in
+      t ∙ rw (e, f, n, bytes_of_hash _ _ after_lengths all) refl
+
+  pub tag_from : (v : GcmState) → s ≡ v → HasTaken nk v aad → first ≡ first_block (cipher nk v.key) iv → tag ≡ tag_of (cipher nk v.key) iv aad ciphertext
+  tag_from v same =
+      subst (λ (v : GcmState). HasTaken nk v aad → first ≡ first_block (cipher nk v.key) iv → tag ≡ tag_of (cipher nk v.key) iv aad ciphertext) same tag_of_state

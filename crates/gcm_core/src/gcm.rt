@@ -4,7 +4,7 @@ ghost use Rattle.std.specs.Prelude.{◌≡◌, ◌-◌, ◌^◌, ◌<◌, ◌≤
 ghost use Rattle.std.specs.Bool.{OnTrue, OnFalse};
 ghost use Rattle.std.proofs.Common.{rules};
 ghost use Rattle.aes_core.specs.Cipher.{cipher};
-ghost use Rattle.gcm_core.specs.Gcm.{first_block, ciphered, tag_of};
+ghost use Rattle.gcm_core.specs.Gcm.{Seals, first_block, ciphered, tag_of};
 ghost use Rattle.gcm_core.specs.State.{HasTaken};
 
 use crate::counter::{add, encrypted, run_counter_mode};
@@ -51,6 +51,50 @@ impl<const NK: usize> Gcm<NK> {
             rest: [0; 16],
             fed: 0,
         }
+    }
+
+    /// Enciphers the body in place, and returns its tag. Takes no memory.
+    pub fn seal(self, iv: &[u8], body: &mut [u8]) -> [u8; 16]
+        requires vector { 0 < length iv.now }
+        requires body { length body.old ≤ 2 ^ 32 }
+        ensures body { body.new ≡ ciphered (cipher NK self.entry.key) iv.now body.old }
+        ensures tag { (aad : List ℕ) → HasTaken NK self.entry aad
+            → result ≡ tag_of (cipher NK self.entry.key) iv.now aad body.new }
+    {
+        let first = first_block(&self.aes, self.subkey, iv);
+        run_counter_mode(&self.aes, &first, body);
+        self.tag(&first, body)
+    }
+
+    /// Deciphers the body in place if the tag is right, and says whether it is. Takes no memory.
+    pub fn unseal(self, iv: &[u8], body: &mut [u8], tag: &[u8; 16]) -> bool
+        requires vector { 0 < length iv.now }
+        requires body { length body.old ≤ 2 ^ 32 }
+        ensures exact { (aad : List ℕ) → HasTaken NK self.entry aad
+            → (IsTrue result ↔ (tag.now ≡ tag_of (cipher NK self.entry.key) iv.now aad body.old)) }
+        ensures opened { OnTrue result (body.new ≡ ciphered (cipher NK self.entry.key) iv.now body.old) }
+        ensures stays { OnFalse result (body.new ≡ body.old) }
+
+        // What sealing made is opened.
+        ensures undoes { (aad plain : List ℕ) → HasTaken NK self.entry aad
+            → Seals (cipher NK self.entry.key) iv.now aad plain body.old tag.now → IsTrue result × (body.new ≡ plain) }
+    {
+        let first = first_block(&self.aes, self.subkey, iv);
+        let right = is_same(&self.tag(&first, body), tag);
+        if right {
+            run_counter_mode(&self.aes, &first, body);
+        }
+        right
+    }
+
+    /// Says whether the tag is right. Takes no memory.
+    pub fn check(self, iv: &[u8], body: &[u8], tag: &[u8; 16]) -> bool
+        requires vector { 0 < length iv.now }
+        ensures { (aad : List ℕ) → HasTaken NK self.entry aad
+            → (IsTrue result ↔ (tag.now ≡ tag_of (cipher NK self.entry.key) iv.now aad body.now)) }
+    {
+        let first = first_block(&self.aes, self.subkey, iv);
+        is_same(&self.tag(&first, body), tag)
     }
 
     /// Takes one byte of additional data.
