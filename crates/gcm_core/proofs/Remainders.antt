@@ -1,2 +1,206 @@
 -- What the remainder of a polynomial is: the one list of its length that differs from it by a multiple of the modulus.
-use Rattle.std.proofs.Common.{◌≡◌}
+use Rattle.std.proofs.Common.{◌≡◌, ℕ, zero, suc, ◌+◌, ◌-◌, ◌<◌, ◌≤◌, ◌↔◌, Bool, true, false, not, ◌&&◌, List, [], ◌∷◌, ◌++◌, length, take, replicate, get_or, refl, sym, ap, ◌∙◌, inl, inr, arith, length-append, get_or-take, length-take}
+use Rattle.std.proofs.lemmas.List.{length-replicate, get_or_past, get_or_append_left, get_or_at, ext_get_or, length_push}
+use Rattle.std.proofs.lemmas.Bool.{cases_order}
+use Rattle.gcm_core.specs.Polynomial.{coefficient, coefficient_sum, polynomial_sum, polynomial_scaled, polynomial_product, modulus, reduced, remainder, IsRemainder}
+use Rattle.gcm_core.proofs.PolynomialLemmas.{xor_zero, xor_same, and-xor, xor_comm, xor_assoc, coefficient-sum, length-remainder}
+
+coefficient_none : (i : ℕ) → coefficient [] i ≡ false
+coefficient_none i = refl
+
+coefficient-scaled : (a : Bool) (q : List Bool) (i : ℕ) → coefficient (polynomial_scaled a q) i ≡ (a && coefficient q i)
+coefficient-scaled true [] i = refl
+coefficient-scaled false [] i = refl
+coefficient-scaled a (b ∷ q) zero = refl
+coefficient-scaled a (b ∷ q) (suc i) = coefficient-scaled a q i
+
+coefficient-zeros : (n i : ℕ) → coefficient (replicate n false) i ≡ false
+coefficient-zeros zero i = refl
+coefficient-zeros (suc n) zero = refl
+coefficient-zeros (suc n) (suc i) = coefficient-zeros n i
+
+-- the modulus has the coefficient of x ^ d, and none above
+modulus_top : (low : List Bool) → coefficient (modulus low) (length low) ≡ true
+modulus_top low = get_or_at low true [] false (length low) refl
+
+modulus_below : (low : List Bool) (i : ℕ) → i < length low → coefficient (modulus low) i ≡ coefficient low i
+modulus_below low i h = get_or_append_left low (true ∷ []) false i h
+
+modulus_above : (low : List Bool) (i : ℕ) → length low < i → coefficient (modulus low) i ≡ false
+modulus_above low i h = get_or_past (modulus low) i false (omega (arith, length_push low true))
+
+and_off : (c : Bool) → (c && false) ≡ false
+and_off true = refl
+and_off false = refl
+
+and_on : (c : Bool) → (c && true) ≡ c
+and_on true = refl
+and_on false = refl
+
+cancels : (c : Bool) → coefficient_sum c (c && true) ≡ false
+cancels true = refl
+cancels false = refl
+
+cancels_between : (m x y : Bool) → coefficient_sum (coefficient_sum m x) (coefficient_sum y m) ≡ coefficient_sum x y
+cancels_between true true true = refl
+cancels_between true true false = refl
+cancels_between true false true = refl
+cancels_between true false false = refl
+cancels_between false x y = ap (coefficient_sum x) (xor_zero y)
+
+-- a coefficient of (a + x p) q
+coefficient_product : (a : Bool) (p q : List Bool) (i : ℕ) → coefficient (polynomial_product (a ∷ p) q) i
+    ≡ coefficient_sum (a && coefficient q i) (coefficient (false ∷ polynomial_product p q) i)
+coefficient_product a p q i =
+    coefficient-sum (polynomial_scaled a q) (false ∷ polynomial_product p q) i
+    ∙ ap (λ (b : Bool). coefficient_sum b (coefficient (false ∷ polynomial_product p q) i)) (coefficient-scaled a q i)
+
+-- where p is m plus r, a + x p is x m plus a + x r
+one_more : (a : Bool) (p r m : List Bool) (i : ℕ) → ((k : ℕ) → coefficient p k ≡ coefficient (polynomial_sum m r) k)
+    → coefficient (a ∷ p) i ≡ coefficient_sum (coefficient (false ∷ m) i) (coefficient (a ∷ r) i)
+one_more a p r m zero h = refl
+one_more a p r m (suc i) h = h i ∙ coefficient-sum m r i
+
+-- to reduce is to add a multiple of the modulus by a coefficient
+coefficient-reduced : (low p : List Bool) (i : ℕ) → length p ≡ suc (length low)
+    → coefficient (reduced low p) i ≡ coefficient_sum (coefficient p i) (coefficient p (length low) && coefficient (modulus low) i)
+unfolding reduced
+coefficient-reduced low p i h =
+    let d : ℕ = length low in
+    let c : Bool = coefficient p d in
+    let parts : coefficient (reduced low p) i ≡ coefficient_sum (coefficient (take d p) i) (c && coefficient low i) =
+    coefficient-sum (take d p) (polynomial_scaled c low) i ∙ ap (coefficient_sum (coefficient (take d p) i)) (coefficient-scaled c low i) in
+    elim (cases_order i d) [
+      | inl at ↦
+          let front : coefficient (take d p) i ≡ false = get_or_past (take d p) i false (omega (arith, length-take d p)) in
+          let rest : coefficient low i ≡ false = get_or_past low i false (omega arith) in
+          let top : coefficient (modulus low) i ≡ true = rw at (modulus_top low) in
+          let same : coefficient p i ≡ c = ap (coefficient p) at in
+          parts ∙ rw (front, rest, top, same) (and_off c ∙ sym (cancels c))
+      | inr other ↦ elim other [
+          | inl below ↦
+              let front : coefficient (take d p) i ≡ coefficient p i = get_or-take d p i false below in
+              parts ∙ rw (front, modulus_below low i below) refl
+          | inr above ↦
+              let front : coefficient (take d p) i ≡ false = get_or_past (take d p) i false (omega (arith, length-take d p)) in
+              let rest : coefficient low i ≡ false = get_or_past low i false (omega arith) in
+              let whole : coefficient p i ≡ false = get_or_past p i false (omega arith) in
+              parts ∙ rw (front, rest, modulus_above low i above, whole) refl
+        ]
+    ]
+
+-- ---- the remainder differs by a multiple
+
+-- the quotient that the remainder leaves
+quotient : List Bool → List Bool → List Bool
+quotient low [] = []
+quotient low (a ∷ p) = coefficient (a ∷ remainder low p) (length low) ∷ quotient low p
+
+remainder_multiple : (low p : List Bool) (i : ℕ)
+    → coefficient p i ≡ coefficient (polynomial_sum (polynomial_product (quotient low p) (modulus low)) (remainder low p)) i
+unfolding remainder quotient
+remainder_multiple low [] i = sym (coefficient-zeros (length low) i)
+remainder_multiple low (a ∷ p) i =
+    let r : List Bool = remainder low p in
+    let m : Bool = coefficient (a ∷ r) (length low) && coefficient (modulus low) i in
+    let x : Bool = coefficient (false ∷ polynomial_product (quotient low p) (modulus low)) i in
+    let product : coefficient (polynomial_sum (polynomial_scaled (coefficient (a ∷ r) (length low)) (modulus low)) (false ∷ polynomial_product (quotient low p) (modulus low))) i
+        ≡ coefficient_sum m x = coefficient_product (coefficient (a ∷ r) (length low)) (quotient low p) (modulus low) i in
+    let left : coefficient (reduced low (a ∷ r)) i ≡ coefficient_sum (coefficient (a ∷ r) i) m =
+    coefficient-reduced low (a ∷ r) i (ap suc (length-remainder low p)) in
+    let whole : coefficient (a ∷ p) i ≡ coefficient_sum x (coefficient (a ∷ r) i) = one_more a p r (polynomial_product (quotient low p) (modulus low)) i (remainder_multiple low p) in
+    whole ∙ sym (coefficient-sum (polynomial_sum (polynomial_scaled (coefficient (a ∷ r) (length low)) (modulus low)) (false ∷ polynomial_product (quotient low p) (modulus low))) (reduced low (a ∷ r)) i
+    ∙ rw (product, left) (cancels_between m x (coefficient (a ∷ r) i)))
+
+pub remainder_IsRemainder : (low p : List Bool) → IsRemainder low p (remainder low p)
+remainder_IsRemainder low p = record { short = length-remainder low p; multiple = (quotient low p, remainder_multiple low p) }
+
+-- ---- and no other list does
+
+moved_zeros : (m : List Bool) → ((k : ℕ) → coefficient m k ≡ false) → (k : ℕ) → coefficient (false ∷ m) k ≡ false
+moved_zeros m h zero = refl
+moved_zeros m h (suc k) = h k
+
+moved_sum : (m a b : List Bool) → ((k : ℕ) → coefficient m k ≡ coefficient_sum (coefficient a k) (coefficient b k))
+    → (k : ℕ) → coefficient (false ∷ m) k ≡ coefficient_sum (coefficient (false ∷ a) k) (coefficient (false ∷ b) k)
+moved_sum m a b h zero = refl
+moved_sum m a b h (suc k) = h k
+
+xor_swap : (a b x y : Bool) → coefficient_sum (coefficient_sum a b) (coefficient_sum x y) ≡ coefficient_sum (coefficient_sum a x) (coefficient_sum b y)
+xor_swap a b x y =
+    xor_assoc a b (coefficient_sum x y)
+    ∙ ap (coefficient_sum a) (sym (xor_assoc b x y) ∙ ap (λ (t : Bool). coefficient_sum t y) (xor_comm b x) ∙ xor_assoc x b y)
+    ∙ sym (xor_assoc a x (coefficient_sum b y))
+
+same_from_sum : (a b : Bool) → coefficient_sum a b ≡ false → a ≡ b
+same_from_sum true true h = refl
+same_from_sum false false h = refl
+same_from_sum true false h = h
+same_from_sum false true h = sym h
+
+-- a multiple of the modulus with no coefficient from x ^ d on is zero
+no_multiple : (low q : List Bool) → ((i : ℕ) → length low ≤ i → coefficient (polynomial_product q (modulus low)) i ≡ false)
+    → (i : ℕ) → coefficient (polynomial_product q (modulus low)) i ≡ false
+no_multiple low [] h i = refl
+no_multiple low (a ∷ q) h i =
+    let d : ℕ = length low in
+    let above : (k : ℕ) → d ≤ k → coefficient (polynomial_product q (modulus low)) k ≡ false =
+    λ k g. let none : coefficient (modulus low) (suc k) ≡ false = modulus_above low (suc k) (omega arith) in
+    let at : coefficient_sum (a && coefficient (modulus low) (suc k)) (coefficient (polynomial_product q (modulus low)) k) ≡ false =
+    sym (coefficient_product a q (modulus low) (suc k)) ∙ h (suc k) (omega arith) in
+    rw (none, and_off a) at at in
+    let rest : (k : ℕ) → coefficient (polynomial_product q (modulus low)) k ≡ false = no_multiple low q above in
+    let moved : (k : ℕ) → coefficient (false ∷ polynomial_product q (modulus low)) k ≡ false = moved_zeros (polynomial_product q (modulus low)) rest in
+    let top : coefficient_sum (a && coefficient (modulus low) d) (coefficient (false ∷ polynomial_product q (modulus low)) d) ≡ false =
+    sym (coefficient_product a q (modulus low) d) ∙ h d (omega arith) in
+    let off : a ≡ false = sym (xor_zero a) ∙ (rw (modulus_top low, moved d, and_on a) at top) in
+    coefficient_product a q (modulus low) i ∙ rw (off, moved i) refl
+
+-- a product is additive in its first factor
+coefficient_product-sum : (p q m : List Bool) (i : ℕ) → coefficient (polynomial_product (polynomial_sum p q) m) i
+    ≡ coefficient_sum (coefficient (polynomial_product p m) i) (coefficient (polynomial_product q m) i)
+coefficient_product-sum [] q m i = refl
+coefficient_product-sum (a ∷ p) [] m i = sym (xor_zero (coefficient (polynomial_product (a ∷ p) m) i))
+coefficient_product-sum (a ∷ p) (b ∷ q) m i =
+    let left : coefficient (polynomial_product (polynomial_sum (a ∷ p) (b ∷ q)) m) i
+        ≡ coefficient_sum (coefficient_sum (a && coefficient m i) (b && coefficient m i)) (coefficient_sum (coefficient (false ∷ polynomial_product p m) i) (coefficient (false ∷ polynomial_product q m) i)) =
+    coefficient_product (coefficient_sum a b) (polynomial_sum p q) m i
+    ∙ rw (and-xor a b (coefficient m i), moved_sum (polynomial_product (polynomial_sum p q) m) (polynomial_product p m) (polynomial_product q m) (coefficient_product-sum p q m) i) refl in
+    left ∙ rw (coefficient_product a p m i, coefficient_product b q m i)
+    (xor_swap (a && coefficient m i) (b && coefficient m i) (coefficient (false ∷ polynomial_product p m) i) (coefficient (false ∷ polynomial_product q m) i))
+
+same_sums : (a b x y : Bool) → coefficient_sum a x ≡ coefficient_sum b y → coefficient_sum a b ≡ coefficient_sum x y
+same_sums true true true true h = refl
+same_sums true true true false h = cc
+same_sums true true false true h = cc
+same_sums true true false false h = refl
+same_sums true false true true h = cc
+same_sums true false true false h = refl
+same_sums true false false true h = refl
+same_sums true false false false h = cc
+same_sums false true true true h = cc
+same_sums false true true false h = refl
+same_sums false true false true h = refl
+same_sums false true false false h = cc
+same_sums false false true true h = refl
+same_sums false false true false h = cc
+same_sums false false false true h = cc
+same_sums false false false false h = refl
+
+-- a list with what a remainder has is the remainder
+pub remainder_unique : (low p r : List Bool) → IsRemainder low p r → r ≡ remainder low p
+remainder_unique low p r is =
+    let s : List Bool = remainder low p in
+    let q : List Bool = is.multiple.0 in
+    let t : List Bool = quotient low p in
+    let size : length r ≡ length s = is.short ∙ sym (length-remainder low p) in
+    let both : (i : ℕ) → coefficient (polynomial_product (polynomial_sum q t) (modulus low)) i ≡ coefficient_sum (coefficient r i) (coefficient s i) =
+    λ i. coefficient_product-sum q t (modulus low) i
+    ∙ same_sums (coefficient (polynomial_product q (modulus low)) i) (coefficient (polynomial_product t (modulus low)) i) (coefficient r i) (coefficient s i)
+    (sym (coefficient-sum (polynomial_product q (modulus low)) r i) ∙ sym (is.multiple.1 i) ∙ remainder_multiple low p i ∙ coefficient-sum (polynomial_product t (modulus low)) s i) in
+    let zero_ : (i : ℕ) → coefficient (polynomial_product (polynomial_sum q t) (modulus low)) i ≡ false =
+    no_multiple low (polynomial_sum q t) (λ i h.
+    let left : coefficient r i ≡ false = get_or_past r i false (omega (arith, is.short)) in
+    let right : coefficient s i ≡ false = get_or_past s i false (omega (arith, length-remainder low p)) in
+    both i ∙ rw (left, right) refl) in
+    ext_get_or false r s size (λ i h. same_from_sum (coefficient r i) (coefficient s i) (sym (both i) ∙ zero_ i))

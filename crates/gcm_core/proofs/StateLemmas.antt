@@ -5,8 +5,8 @@ use Rattle.aes_core.specs.Cipher.{cipher}
 use Rattle.gcm_core.specs.Block.{bits, polynomial_of}
 use Rattle.gcm_core.specs.Hash.{filled, Hashes}
 use Rattle.std.specs.Int.{w128, to_be_bytes}
-use Rattle.gcm_core.specs.Counter.{bytes_sum}
-use Rattle.gcm_core.specs.Gcm.{hash_subkey, first_block, length_in_bits, tag_of}
+use Rattle.gcm_core.specs.Counter.{bytes_sum, counter_mode}
+use Rattle.gcm_core.specs.Gcm.{hash_subkey, first_block, length_in_bits, ciphered, tag_of}
 use Rattle.gcm_core.specs.State.{GcmState, whole_len, HasTaken}
 use Rattle.gcm_core.proofs.TagLemmas.{Hashes_none, filled_whole, bytes_of_hash}
 
@@ -115,3 +115,10 @@ module _ (nk : ℕ) (s : GcmState) (iv aad ciphertext first lengths block stream
   pub tag_from : (v : GcmState) → s ≡ v → HasTaken nk v aad → first ≡ first_block (cipher nk v.key) iv → tag ≡ tag_of (cipher nk v.key) iv aad ciphertext
   tag_from v same =
       subst (λ (v : GcmState). HasTaken nk v aad → first ≡ first_block (cipher nk v.key) iv → tag ≡ tag_of (cipher nk v.key) iv aad ciphertext) same tag_of_state
+
+-- what counter mode leaves is the body under the initialisation vector
+pub ciphered_from : (nk : ℕ) (s v : GcmState) (iv first body new : List ℕ) → s ≡ v → first ≡ first_block (cipher nk s.key) iv
+    → new ≡ counter_mode (cipher nk s.key) first body → new ≡ ciphered (cipher nk v.key) iv body
+unfolding ciphered
+ciphered_from nk s v iv first body new e f n =
+    n ∙ ap (λ (b : List ℕ). counter_mode (cipher nk s.key) b body) f ∙ ap (λ (v : GcmState). counter_mode (cipher nk v.key) (first_block (cipher nk v.key) iv) body) e
