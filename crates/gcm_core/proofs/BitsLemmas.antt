@@ -70,7 +70,7 @@ low_terms_bits : bits 128 299076299051606071403356588563077529600 ≡ low_terms
 unfolding bits low_terms
 low_terms_bits = refl
 
-length-low_terms : length low_terms ≡ 128
+pub length-low_terms : length low_terms ≡ 128
 unfolding low_terms
 length-low_terms = refl
 

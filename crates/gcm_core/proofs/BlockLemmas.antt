@@ -4,7 +4,8 @@ use Rattle.std.proofs.Math.Nat.{pow-suc}
 use Rattle.std.proofs.lemmas.List.{take_all, length_push}
 use Rattle.std.proofs.lemmas.Nat.{shr-shr, pow-add, div-mul-add, mul-add-lt}
 use Rattle.std.proofs.lemmas.Nat.Bits.{bit_at_cat_low}
-use Rattle.std.specs.List.{AllByRecursion}
+use Rattle.std.specs.List.{All, AllByRecursion}
+use Rattle.std.proofs.lemmas.List.Elements.{recursion_from_All}
 use Rattle.std.proofs.Math.Seq.{take-suc}
 use Rattle.std.specs.Int.{w128, byte_at, byte_worth, bytes_high_first, sum_through, from_be_bytes, to_be_bytes}
 use Rattle.gcm_core.specs.Block.{bits, polynomial_of, block_of, worth}
@@ -123,3 +124,12 @@ block_of-bits zero n = refl
 block_of-bits (suc k) n =
     let more : 8 * suc k ≡ 8 + 8 * k = omega arith in
     rw (more, bits-add 8 (8 * k) n, block_of_byte (n / 2 ^ (8 * k)) (bits (8 * k) n), block_of-bits k n, pow_eight k, byte_at_is k n) refl
+
+block_of_bytes : (bytes : List ℕ) → Bytes bytes → block_of (polynomial_of bytes) ≡ bytes
+block_of_bytes [] h = refl
+block_of_bytes (b ∷ bytes) h =
+    let same : b % 256 ≡ b = omega (arith, h.0) in
+    block_of_byte b (polynomial_of bytes) ∙ rw (same, block_of_bytes bytes h.1) refl
+
+pub block_of_polynomial : (bytes : List ℕ) → All (λ byte. byte < 256) bytes → block_of (polynomial_of bytes) ≡ bytes
+block_of_polynomial bytes h = block_of_bytes bytes (recursion_from_All (λ byte. byte < 256) bytes h)

@@ -22,7 +22,7 @@ counted_is block ys last sum count size l s e =
 
 -- ---- bytes added
 
-length-bytes_sum : (a b : List ℕ) → length a ≤ length b → length (bytes_sum a b) ≡ length a
+pub length-bytes_sum : (a b : List ℕ) → length a ≤ length b → length (bytes_sum a b) ≡ length a
 length-bytes_sum [] b h = refl
 length-bytes_sum (x ∷ a) [] h = absurd (omega arith)
 length-bytes_sum (x ∷ a) (y ∷ b) h = omega (arith, length-bytes_sum a b (omega arith))
@@ -54,7 +54,7 @@ bytes_sum_all a b now i h n = n ∙ rw (take_all i a h, drop_all i a h, append-n
 -- ---- the body
 
 module _ (e : List ℕ → List ℕ) (first : List ℕ) where
-  length-counter_mode_from : (i : ℕ) (bytes : List ℕ) → length (counter_mode_from e first i bytes) ≡ length bytes
+  pub length-counter_mode_from : (i : ℕ) (bytes : List ℕ) → length (counter_mode_from e first i bytes) ≡ length bytes
   length-counter_mode_from i bytes = length-map (enumerate_from i bytes) (λ p. bit_xor p.1 (key_stream e first p.0)) ∙ length-enumerate_from i bytes
 
   counter_mode_from-append : (i : ℕ) (a b : List ℕ) → counter_mode_from e first i (a ++ b) ≡ counter_mode_from e first i a ++ counter_mode_from e first (i + length a) b

@@ -22,3 +22,7 @@ opened_is_sealed e iv aad ciphertext tag body t = (
   λ b. record { ciphertext_is = sym (ciphered_twice e iv ciphertext) ∙ ap (ciphered e iv) (sym b); tag_is = t },
   λ s. sym (ciphered_twice e iv body) ∙ ap (ciphered e iv) (sym s.ciphertext_is),
 )
+
+pub sealed_is_opened : (e : List ℕ → List ℕ) (iv aad body ciphertext tag : List ℕ) → Seals e iv aad body ciphertext tag
+    → (tag ≡ tag_of e iv aad ciphertext) × (ciphered e iv ciphertext ≡ body)
+sealed_is_opened e iv aad body ciphertext tag s = (s.tag_is, ap (ciphered e iv) s.ciphertext_is ∙ ciphered_twice e iv body)

@@ -1,3 +1,4 @@
+pub mod SizeLemmas
 pub mod LawLemmas
 pub mod StateLemmas
 pub mod TagLemmas

@@ -1,5 +1,5 @@
 -- What the remainder of a polynomial is: the one list of its length that differs from it by a multiple of the modulus.
-use Rattle.std.proofs.Common.{◌≡◌, ℕ, zero, suc, ◌+◌, ◌-◌, ◌<◌, ◌≤◌, ◌↔◌, Bool, true, false, not, ◌&&◌, List, [], ◌∷◌, ◌++◌, length, take, replicate, get_or, refl, sym, ap, ◌∙◌, inl, inr, arith, length-append, get_or-take, length-take}
+use Rattle.std.proofs.Common.{◌≡◌, ℕ, zero, suc, ◌+◌, ◌-◌, ◌<◌, ◌≤◌, ◌↔◌, Bool, true, false, not, ◌&&◌, List, [], ◌∷◌, ◌++◌, length, take, replicate, get_or, refl, sym, ap, subst, ◌∙◌, inl, inr, arith, length-append, get_or-take, length-take}
 use Rattle.std.proofs.lemmas.List.{length-replicate, get_or_past, get_or_append_left, get_or_at, ext_get_or, length_push}
 use Rattle.std.proofs.lemmas.Bool.{cases_order}
 use Rattle.gcm_core.specs.Polynomial.{coefficient, coefficient_sum, polynomial_sum, polynomial_scaled, polynomial_product, modulus, reduced, remainder, IsRemainder}
@@ -204,3 +204,6 @@ remainder_unique low p r is =
     let right : coefficient s i ≡ false = get_or_past s i false (omega (arith, length-remainder low p)) in
     both i ∙ rw (left, right) refl) in
     ext_get_or false r s size (λ i h. same_from_sum (coefficient r i) (coefficient s i) (sym (both i) ∙ zero_ i))
+
+pub remainder_exact : (low p r : List Bool) → (r ≡ remainder low p) ↔ IsRemainder low p r
+remainder_exact low p r = (λ e. subst (IsRemainder low p) (sym e) (remainder_IsRemainder low p), remainder_unique low p r)

@@ -1,5 +1,5 @@
 -- AES-GCM over the block cipher e under one key (NIST SP 800-38D, section 7).
-use Rattle.std.specs.Prelude.{◌≡◌, ℕ, ◌*◌, ◌==◌, Bool, if◌then◌else◌, List, [], ◌∷◌, ◌++◌, length, replicate}
+use Rattle.std.specs.Prelude.{◌≡◌, ℕ, ◌*◌, ◌<◌, ◌==◌, Bool, if◌then◌else◌, List, [], ◌∷◌, ◌++◌, length, replicate, All}
 use Rattle.std.specs.Int.{w64, to_be_bytes}
 use Rattle.gcm_core.specs.Block.{polynomial_of, block_of}
 use Rattle.gcm_core.specs.Hash.{ghash, filled}
@@ -33,3 +33,8 @@ tag_of e iv aad ciphertext =
 pub record Seals (e : List ℕ → List ℕ) (iv aad body ciphertext tag : List ℕ) : Type 0 where
   pub ciphertext_is : ciphertext ≡ ciphered e iv body
   pub tag_is : tag ≡ tag_of e iv aad ciphertext
+
+-- the cipher gives 16 bytes, whatever it is given
+pub record GivesBlocks (e : List ℕ → List ℕ) : Type 0 where
+  pub size : (block : List ℕ) → length (e block) ≡ 16
+  pub bytes : (block : List ℕ) → All (λ byte. byte < 256) (e block)

@@ -1,10 +1,15 @@
-//! AES-GCM.
+//! AES-GCM (NIST SP 800-38D): bodies are enciphered and authenticated in place, with additional data that comes in
+//! pieces. No call takes memory.
+//!
+//! A body is opened only under its tag; where the tag is wrong, the body stays as it is. Nothing is claimed of timing.
 #![tactic(auto)]
 
 mod counter;
 mod gcm;
 mod hash;
-mod laws;
+pub mod laws;
 mod tag;
+#[cfg(test)]
+mod tests;
 
 pub use gcm::Gcm;
