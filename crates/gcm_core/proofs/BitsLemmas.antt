@@ -1,11 +1,11 @@
 -- The bits of numbers as polynomials.
-use Rattle.std.proofs.Common.{◌≡◌, ℕ, zero, suc, ◌+◌, ◌-◌, ◌*◌, ◌/◌, ◌%◌, ◌^◌, ◌<◌, ◌≤◌, Bool, true, false, eqb, cond, List, [], ◌∷◌, ◌++◌, length, take, replicate, get_or, bit_and, bit_xor, refl, sym, ap, ◌∙◌, arith, zero-add, add-one}
+use Rattle.std.proofs.Common.{◌≡◌, ℕ, zero, suc, ◌+◌, ◌/◌, ◌%◌, ◌^◌, ◌<◌, Bool, false, eqb, List, [], ◌∷◌, ◌++◌, length, replicate, bit_and, bit_xor, refl, sym, ap, ◌∙◌, arith, zero-add, add-one}
 use Rattle.std.proofs.Math.Nat.{zero-div}
-use Rattle.std.proofs.lemmas.List.{length-replicate, take_at, get_or_at}
+use Rattle.std.proofs.lemmas.List.{take_at, get_or_at}
 use Rattle.std.proofs.lemmas.Nat.{shr-shr, shr_below, and_mask}
 use Rattle.std.proofs.lemmas.Nat.Bits.{bit_at_xor, bit_at-lt}
 use Rattle.std.specs.Int.{bit_at}
-use Rattle.gcm_core.specs.Polynomial.{coefficient, coefficient_sum, polynomial_sum, polynomial_scaled, polynomial_product, reduced, remainder}
+use Rattle.gcm_core.specs.Polynomial.{coefficient_sum, polynomial_sum, polynomial_scaled, polynomial_product, reduced, remainder}
 use Rattle.gcm_core.specs.Block.{bits, block_product, low_terms}
 use Rattle.gcm_core.proofs.PolynomialLemmas.{scaled_false, scaled_true, sum_zeros, zeros_sum, sum_comm, remainder_product}
 

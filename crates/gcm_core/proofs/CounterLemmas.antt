@@ -1,9 +1,8 @@
 -- Counter mode, block by block.
-use Rattle.std.proofs.Common.{◌≡◌, ℕ, zero, suc, ◌+◌, ◌-◌, ◌*◌, ◌/◌, ◌%◌, ◌^◌, ◌<◌, ◌≤◌, min, List, [], ◌∷◌, ◌++◌, length, map, take, drop, set, get_or, slice_index, bit_xor, refl, sym, ap, ◌∙◌, inl, inr, arith, length-append, length-drop, get_or-drop, drop-cons, zero-add, add-zero}
+use Rattle.std.proofs.Common.{◌≡◌, ℕ, ◌+◌, ◌-◌, ◌*◌, ◌/◌, ◌%◌, ◌^◌, ◌<◌, ◌≤◌, min, List, [], ◌∷◌, ◌++◌, length, take, drop, set, get_or, slice_index, bit_xor, refl, sym, ap, ◌∙◌, arith, length-drop, get_or-drop, zero-add, add-zero}
 use Rattle.std.proofs.Math.Seq.{take-add}
 use Rattle.std.proofs.lemmas.List.{take_all, drop_all, take_at, drop_at, set_at, get_or_at, take_min, drop_min, append_assoc, append-nil, take_more, drop_more, drop-drop, length-take-le, length-take, length-map}
 use Rattle.std.proofs.lemmas.List.FromFn.{length-enumerate_from}
-use Rattle.std.proofs.lemmas.Bool.{cases_lt}
 use Rattle.std.specs.List.{enumerate_from}
 use Rattle.std.specs.Int.{w32, from_be_bytes, to_be_bytes, div_ceil}
 use borrow.Rule.Slice.PartMut.{put_mid}

@@ -1,15 +1,14 @@
 -- GHASH, block by block.
-use Rattle.std.proofs.Common.{◌≡◌, ℕ, zero, suc, ◌+◌, ◌-◌, ◌*◌, ◌/◌, ◌%◌, ◌^◌, ◌<◌, ◌≤◌, min, Bool, List, [], ◌∷◌, ◌++◌, length, take, drop, replicate, get_or, bit_xor, refl, sym, ap, ◌∙◌, inl, inr, arith, length-append, length-drop}
+use Rattle.std.proofs.Common.{◌≡◌, ℕ, zero, suc, ◌+◌, ◌-◌, ◌*◌, ◌/◌, ◌%◌, ◌<◌, ◌≤◌, min, Bool, List, ◌++◌, length, take, drop, replicate, get_or, bit_xor, refl, sym, ap, ◌∙◌, inl, inr, arith, length-append, length-drop}
 use Rattle.std.proofs.Math.Seq.{take-add}
-use Rattle.std.proofs.lemmas.List.{take-append-le, drop-append-le, take_all, drop_at, take_at, append-nil, append_assoc, drop-replicate, length-replicate, length-take-le}
+use Rattle.std.proofs.lemmas.List.{take-append-le, drop-append-le, take_all, drop_at, append-nil, append_assoc, drop-replicate, length-replicate, length-take-le}
 use Rattle.std.proofs.lemmas.Bool.{cases_lt}
 use Rattle.std.specs.Int.{w128, from_be_bytes, div_ceil}
 use borrow.Rule.Slice.PartMut.{post_of}
-use Rattle.gcm_core.specs.Polynomial.{polynomial_sum}
 use Rattle.gcm_core.specs.Block.{bits, polynomial_of, block_product}
-use Rattle.gcm_core.specs.Hash.{hash_of_blocks, ghash, filled, Hashes}
+use Rattle.gcm_core.specs.Hash.{hash_of_blocks, filled, Hashes}
 use Rattle.gcm_core.proofs.BitsLemmas.{bits-xor}
-use Rattle.gcm_core.proofs.BlockLemmas.{Bytes, Bytes_from, Bytes-append, Bytes_zeros, bits-from_be_bytes}
+use Rattle.gcm_core.proofs.BlockLemmas.{Bytes_from, Bytes-append, Bytes_zeros, bits-from_be_bytes}
 
 -- what filled_block computes
 pub filled_block_bits : (bytes ys : List ℕ) (number : ℕ) → length bytes ≤ 16 → ((i : ℕ) → get_or bytes i 0 < 256) → ys ≡ bytes

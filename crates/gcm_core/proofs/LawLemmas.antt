@@ -1,5 +1,5 @@
 -- Counter mode is its own inverse, so what was sealed is what is opened.
-use Rattle.std.proofs.Common.{◌≡◌, ℕ, ◌+◌, ◌↔◌, List, [], ◌∷◌, map, bit_xor, refl, sym, ap, ◌∙◌}
+use Rattle.std.proofs.Common.{◌≡◌, ℕ, ◌+◌, ◌↔◌, List, [], ◌∷◌, bit_xor, refl, sym, ap, ◌∙◌}
 use Rattle.std.specs.Int.Bits.{xor_assoc, xor_self, xor_zero_r}
 use Rattle.gcm_core.specs.Counter.{key_stream, counter_mode_from, counter_mode}
 use Rattle.gcm_core.specs.Gcm.{first_block, ciphered, tag_of, Seals}

@@ -1,6 +1,6 @@
 -- Laws of sums, products and remainders of polynomials over two elements.
-use Rattle.std.proofs.Common.{◌≡◌, ℕ, zero, suc, ◌+◌, ◌-◌, ◌<◌, ◌≤◌, Bool, true, false, not, ◌&&◌, List, [], ◌∷◌, ◌++◌, length, map, take, replicate, get_or, refl, sym, ap, ◌∙◌, arith, length-append}
-use Rattle.std.proofs.lemmas.List.{length-replicate, length-map, length-take-le, take-append-le, take_all, append-nil, take-replicate}
+use Rattle.std.proofs.Common.{◌≡◌, ℕ, zero, suc, ◌+◌, ◌-◌, ◌≤◌, Bool, true, false, ◌&&◌, List, [], ◌∷◌, ◌++◌, length, take, replicate, refl, sym, ap, ◌∙◌, arith, length-append}
+use Rattle.std.proofs.lemmas.List.{length-replicate, length-map, length-take-le, append-nil, take-replicate}
 use Rattle.std.proofs.Math.Seq.{take-append-add}
 use Rattle.gcm_core.specs.Polynomial.{coefficient, coefficient_sum as xor, polynomial_sum, polynomial_scaled, polynomial_product, reduced, remainder}
 

@@ -1,9 +1,9 @@
 -- What the remainder of a polynomial is: the one list of its length that differs from it by a multiple of the modulus.
-use Rattle.std.proofs.Common.{◌≡◌, ℕ, zero, suc, ◌+◌, ◌-◌, ◌<◌, ◌≤◌, ◌↔◌, Bool, true, false, not, ◌&&◌, List, [], ◌∷◌, ◌++◌, length, take, replicate, get_or, refl, sym, ap, subst, ◌∙◌, inl, inr, arith, length-append, get_or-take, length-take}
-use Rattle.std.proofs.lemmas.List.{length-replicate, get_or_past, get_or_append_left, get_or_at, ext_get_or, length_push}
+use Rattle.std.proofs.Common.{◌≡◌, ℕ, zero, suc, ◌<◌, ◌≤◌, ◌↔◌, Bool, true, false, ◌&&◌, List, [], ◌∷◌, length, take, replicate, refl, sym, ap, subst, ◌∙◌, inl, inr, arith, get_or-take, length-take}
+use Rattle.std.proofs.lemmas.List.{get_or_past, get_or_append_left, get_or_at, ext_get_or, length_push}
 use Rattle.std.proofs.lemmas.Bool.{cases_order}
 use Rattle.gcm_core.specs.Polynomial.{coefficient, coefficient_sum, polynomial_sum, polynomial_scaled, polynomial_product, modulus, reduced, remainder, IsRemainder}
-use Rattle.gcm_core.proofs.PolynomialLemmas.{xor_zero, xor_same, and-xor, xor_comm, xor_assoc, coefficient-sum, length-remainder}
+use Rattle.gcm_core.proofs.PolynomialLemmas.{xor_zero, and-xor, xor_comm, xor_assoc, coefficient-sum, length-remainder}
 
 coefficient_none : (i : ℕ) → coefficient [] i ≡ false
 coefficient_none i = refl
@@ -78,15 +78,15 @@ coefficient-reduced low p i h =
           let same : coefficient p i ≡ c = ap (coefficient p) at in
           parts ∙ rw (front, rest, top, same) (and_off c ∙ sym (cancels c))
       | inr other ↦ elim other [
-          | inl below ↦
-              let front : coefficient (take d p) i ≡ coefficient p i = get_or-take d p i false below in
-              parts ∙ rw (front, modulus_below low i below) refl
-          | inr above ↦
-              let front : coefficient (take d p) i ≡ false = get_or_past (take d p) i false (omega (arith, length-take d p)) in
-              let rest : coefficient low i ≡ false = get_or_past low i false (omega arith) in
-              let whole : coefficient p i ≡ false = get_or_past p i false (omega arith) in
-              parts ∙ rw (front, rest, modulus_above low i above, whole) refl
-        ]
+        | inl below ↦
+            let front : coefficient (take d p) i ≡ coefficient p i = get_or-take d p i false below in
+            parts ∙ rw (front, modulus_below low i below) refl
+        | inr above ↦
+            let front : coefficient (take d p) i ≡ false = get_or_past (take d p) i false (omega (arith, length-take d p)) in
+            let rest : coefficient low i ≡ false = get_or_past low i false (omega arith) in
+            let whole : coefficient p i ≡ false = get_or_past p i false (omega arith) in
+            parts ∙ rw (front, rest, modulus_above low i above, whole) refl
+      ]
     ]
 
 -- ---- the remainder differs by a multiple
@@ -105,7 +105,7 @@ remainder_multiple low (a ∷ p) i =
     let m : Bool = coefficient (a ∷ r) (length low) && coefficient (modulus low) i in
     let x : Bool = coefficient (false ∷ polynomial_product (quotient low p) (modulus low)) i in
     let product : coefficient (polynomial_sum (polynomial_scaled (coefficient (a ∷ r) (length low)) (modulus low)) (false ∷ polynomial_product (quotient low p) (modulus low))) i
-        ≡ coefficient_sum m x = coefficient_product (coefficient (a ∷ r) (length low)) (quotient low p) (modulus low) i in
+    ≡ coefficient_sum m x = coefficient_product (coefficient (a ∷ r) (length low)) (quotient low p) (modulus low) i in
     let left : coefficient (reduced low (a ∷ r)) i ≡ coefficient_sum (coefficient (a ∷ r) i) m =
     coefficient-reduced low (a ∷ r) i (ap suc (length-remainder low p)) in
     let whole : coefficient (a ∷ p) i ≡ coefficient_sum x (coefficient (a ∷ r) i) = one_more a p r (polynomial_product (quotient low p) (modulus low)) i (remainder_multiple low p) in
@@ -163,7 +163,7 @@ coefficient_product-sum [] q m i = refl
 coefficient_product-sum (a ∷ p) [] m i = sym (xor_zero (coefficient (polynomial_product (a ∷ p) m) i))
 coefficient_product-sum (a ∷ p) (b ∷ q) m i =
     let left : coefficient (polynomial_product (polynomial_sum (a ∷ p) (b ∷ q)) m) i
-        ≡ coefficient_sum (coefficient_sum (a && coefficient m i) (b && coefficient m i)) (coefficient_sum (coefficient (false ∷ polynomial_product p m) i) (coefficient (false ∷ polynomial_product q m) i)) =
+    ≡ coefficient_sum (coefficient_sum (a && coefficient m i) (b && coefficient m i)) (coefficient_sum (coefficient (false ∷ polynomial_product p m) i) (coefficient (false ∷ polynomial_product q m) i)) =
     coefficient_product (coefficient_sum a b) (polynomial_sum p q) m i
     ∙ rw (and-xor a b (coefficient m i), moved_sum (polynomial_product (polynomial_sum p q) m) (polynomial_product p m) (polynomial_product q m) (coefficient_product-sum p q m) i) refl in
     left ∙ rw (coefficient_product a p m i, coefficient_product b q m i)

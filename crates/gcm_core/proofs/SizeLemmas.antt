@@ -1,12 +1,9 @@
 -- Ciphertexts are as long as bodies, tags have 16 bytes, and both are bytes.
-use Rattle.std.proofs.Common.{◌≡◌, ℕ, zero, suc, ◌+◌, ◌-◌, ◌*◌, ◌/◌, ◌%◌, ◌^◌, ◌<◌, ◌≤◌, Bool, true, false, List, [], ◌∷◌, ◌++◌, length, get_or, bit_xor, refl, sym, ap, ◌∙◌, arith}
+use Rattle.std.proofs.Common.{◌≡◌, ℕ, zero, suc, ◌+◌, ◌*◌, ◌/◌, ◌%◌, ◌<◌, ◌≤◌, Bool, true, false, List, [], ◌∷◌, ◌++◌, length, get_or, refl, ap, ◌∙◌, arith}
 use Rattle.std.specs.List.{All}
-use Rattle.std.proofs.lemmas.List.{length-map}
-use Rattle.std.proofs.lemmas.List.FromFn.{length-enumerate_from}
 use Rattle.std.proofs.lemmas.List.Elements.{recursion_from_All, All-from_recursion}
 use Rattle.std.proofs.lemmas.Nat.{xor_of_8}
-use Rattle.gcm_core.specs.Polynomial.{polynomial_sum, polynomial_product}
-use Rattle.gcm_core.specs.Block.{bits, worth, block_of, polynomial_of, low_terms, block_product}
+use Rattle.gcm_core.specs.Block.{worth, block_of, low_terms, block_product}
 use Rattle.gcm_core.specs.Hash.{hash_of_blocks, ghash, filled}
 use Rattle.gcm_core.specs.Counter.{counted, key_stream, counter_mode_from, counter_mode, bytes_sum}
 use Rattle.gcm_core.specs.Gcm.{first_block, hash_subkey, length_in_bits, ciphered, tag_of, GivesBlocks}

@@ -1,12 +1,12 @@
 -- The parts of a tag: lengths, the block before the first counter, and the comparison.
-use Rattle.std.proofs.Common.{◌≡◌, ℕ, zero, suc, ◌+◌, ◌-◌, ◌*◌, ◌/◌, ◌%◌, ◌^◌, ◌<◌, ◌≤◌, ◌↔◌, List, [], ◌∷◌, ◌++◌, length, take, drop, set, replicate, get_or, bit_or, bit_xor, refl, sym, ap, ◌∙◌, subst, arith, length-append, eq-eqb}
-use Rattle.std.proofs.lemmas.List.{set-append_right, take_more, take_more_same, same_from_push, take_all, append-nil}
+use Rattle.std.proofs.Common.{◌≡◌, ℕ, ◌+◌, ◌-◌, ◌*◌, ◌/◌, ◌%◌, ◌^◌, ◌<◌, ◌↔◌, List, [], ◌∷◌, ◌++◌, length, take, set, replicate, get_or, bit_or, bit_xor, refl, sym, ap, ◌∙◌, arith, eq-eqb}
+use Rattle.std.proofs.lemmas.List.{set-append_right, take_more, take_more_same, same_from_push, append-nil}
 use Rattle.std.proofs.lemmas.Nat.{le_or_l, le_or_r}
 use Rattle.std.proofs.lemmas.Bool.{ne_eqb}
 use Rattle.std.specs.Int.Bits.{xor_assoc, xor_self, xor_zero_l, xor_zero_r}
 use Rattle.std.specs.Int.{w64, w128, to_be_bytes}
 use borrow.Rule.Slice.PartMut.{put_mid}
-use Rattle.gcm_core.specs.Block.{bits, block_of}
+use Rattle.gcm_core.specs.Block.{block_of}
 use Rattle.gcm_core.specs.Hash.{hash_of_blocks, ghash, filled, Hashes}
 use Rattle.gcm_core.specs.Gcm.{first_block, hash_subkey, length_in_bits}
 use Rattle.gcm_core.proofs.BlockLemmas.{block_of-bits}
@@ -69,15 +69,14 @@ same_from_xor x y h =
 pub difference_more : (a b : List ℕ) (d i : ℕ) → i < length a → i < length b → ((d ≡ 0) ↔ (take i a ≡ take i b))
     → (bit_or d (bit_xor (get_or a i 0) (get_or b i 0)) ≡ 0) ↔ (take (i + 1) a ≡ take (i + 1) b)
 difference_more a b d i h g held =
-    let x : ℕ = bit_xor (get_or a i 0) (get_or b i 0) in
-    (
+    let x : ℕ = bit_xor (get_or a i 0) (get_or b i 0) in (
       λ z.
-        let none : d ≡ 0 = omega (arith, le_or_l d x, z) in
-        let same : x ≡ 0 = omega (arith, le_or_r d x, z) in
-        take_more_same a b i 0 h g (held.0 none) (same_from_xor (get_or a i 0) (get_or b i 0) same),
+          let none : d ≡ 0 = omega (arith, le_or_l d x, z) in
+          let same : x ≡ 0 = omega (arith, le_or_r d x, z) in
+          take_more_same a b i 0 h g (held.0 none) (same_from_xor (get_or a i 0) (get_or b i 0) same),
       λ t.
-        let parts = same_from_push (take i a) (take i b) (get_or a i 0) (get_or b i 0) (sym (take_more a i 0 h) ∙ (t ∙ take_more b i 0 g)) in
-        let none : d ≡ 0 = held.1 parts.0 in
-        let same : x ≡ 0 = rw parts.1 (xor_self (get_or b i 0)) in
-        rw (none, same) refl,
+          let parts = same_from_push (take i a) (take i b) (get_or a i 0) (get_or b i 0) (sym (take_more a i 0 h) ∙ (t ∙ take_more b i 0 g)) in
+          let none : d ≡ 0 = held.1 parts.0 in
+          let same : x ≡ 0 = rw parts.1 (xor_self (get_or b i 0)) in
+          rw (none, same) refl,
     )

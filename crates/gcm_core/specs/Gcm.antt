@@ -27,7 +27,7 @@ ciphered e iv body = counter_mode e (first_block e iv) body
 unfoldable pub tag_of : (List ℕ → List ℕ) → List ℕ → List ℕ → List ℕ → List ℕ
 tag_of e iv aad ciphertext =
     bytes_sum (e (first_block e iv))
-        (block_of (ghash (hash_subkey e) (filled aad ++ filled ciphertext ++ (length_in_bits (length aad) ++ length_in_bits (length ciphertext)))))
+    (block_of (ghash (hash_subkey e) (filled aad ++ filled ciphertext ++ (length_in_bits (length aad) ++ length_in_bits (length ciphertext)))))
 
 -- sealing the body gives this ciphertext and this tag
 pub record Seals (e : List ℕ → List ℕ) (iv aad body ciphertext tag : List ℕ) : Type 0 where

@@ -1,5 +1,5 @@
 -- Polynomials over the field of two elements. A polynomial is the list of its coefficients, that of x ^ 0 first.
-use Rattle.std.specs.Prelude.{◌≡◌, ℕ, ◌+◌, Bool, true, false, not, ◌&&◌, List, [], ◌∷◌, ◌++◌, length, map, take, replicate, slice_index_or}
+use Rattle.std.specs.Prelude.{◌≡◌, ℕ, Bool, true, false, not, ◌&&◌, List, [], ◌∷◌, ◌++◌, length, map, take, replicate, slice_index_or}
 
 -- the coefficient of x ^ i
 abbrev pub coefficient : List Bool → ℕ → Bool

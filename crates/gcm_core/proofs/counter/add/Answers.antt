@@ -1,5 +1,5 @@
 use Rattle.std.proofs.Common.{get_or, refl, arith}
-use Rattle.gcm_core.proofs.CounterLemmas.{bytes_sum_more, bytes_sum_all}
+use Rattle.gcm_core.proofs.CounterLemmas.{bytes_sum_more}
 use Rattle.gcm_core.proofs.counter.add.Goals as goal
 
 pub loop-place-preserved : goal.loop-place-preserved

@@ -1,4 +1,4 @@
-use Rattle.std.proofs.Common.{◌≡◌, List, ℕ, ◌++◌, ◌*◌, ◌≤◌, take}
+use Rattle.std.proofs.Common.{List, ℕ, ◌++◌, ◌*◌, take}
 use Rattle.gcm_core.specs.Block.{bits}
 use Rattle.gcm_core.specs.Hash.{Hashes, filled}
 use Rattle.gcm_core.proofs.hash.absorb.Given as goal

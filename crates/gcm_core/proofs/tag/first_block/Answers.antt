@@ -1,4 +1,4 @@
-use Rattle.std.proofs.Common.{List, ℕ, Bool, [], ◌++◌, ◌∙◌, arith, subst}
+use Rattle.std.proofs.Common.{List, Bool, [], ◌++◌, ◌∙◌, arith, subst}
 use Rattle.aes_core.specs.Cipher.{cipher}
 use Rattle.gcm_core.specs.Block.{bits}
 use Rattle.gcm_core.specs.Hash.{filled, Hashes}

@@ -1,4 +1,4 @@
-use Rattle.std.proofs.Common.{◌+◌, ◌%◌, ◌^◌, set, refl, sym, subst}
+use Rattle.std.proofs.Common.{refl, sym, subst}
 use Rattle.gcm_core.specs.State.{GcmState, HasTaken}
 use Rattle.gcm_core.proofs.StateLemmas.{HasTaken_short, HasTaken_full}
 use Rattle.gcm_core.proofs.gcm.Gcm.take.Goals as goal

@@ -1,6 +1,5 @@
-use Rattle.std.proofs.Common.{◌≡◌, ℕ, ◌+◌, List, ◌∷◌, [], ◌++◌, length, take, get_or, refl, ◌∙◌, arith, length-append}
+use Rattle.std.proofs.Common.{◌≡◌, ◌+◌, ◌++◌, length, take, refl, ◌∙◌, arith, length-append}
 use Rattle.std.proofs.lemmas.List.{append-nil, length-take-le, take_all}
-use Rattle.gcm_core.specs.State.{HasTaken}
 use Rattle.gcm_core.proofs.StateLemmas.{fed_more}
 use Rattle.gcm_core.proofs.gcm.GcmFeed.feed.Goals as goal
 
