@@ -94,7 +94,8 @@ impl<const NK: usize> Gcm<NK> {
             → (IsTrue result ↔ (tag.now ≡ tag_of (cipher NK self.entry.key) iv.now aad body.now)) }
     {
         let first = first_block(&self.aes, self.subkey, iv);
-        is_same(&self.tag(&first, body), tag)
+        let right_tag = self.tag(&first, body);
+        is_same(&right_tag, tag)
     }
 
     /// Takes one byte of additional data.
