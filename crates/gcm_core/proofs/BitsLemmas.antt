@@ -14,13 +14,13 @@ unfolding bits
 length-bits zero n = refl
 length-bits (suc k) n = ap suc (length-bits k n)
 
-pub bits_zero : (k : ℕ) → bits k 0 ≡ replicate k false
+bits_zero : (k : ℕ) → bits k 0 ≡ replicate k false
 unfolding bits
 bits_zero zero = refl
 bits_zero (suc k) = rw (zero-div (2 ^ k), bits_zero k) refl
 
 -- the lowest bit comes last
-pub bits_last : (k n : ℕ) → bits (suc k) n ≡ bits k (n / 2) ++ eqb (n % 2) 1 ∷ []
+bits_last : (k n : ℕ) → bits (suc k) n ≡ bits k (n / 2) ++ eqb (n % 2) 1 ∷ []
 unfolding bits
 bits_last zero n =
     let whole : n / 1 ≡ n = omega arith in
@@ -30,7 +30,7 @@ bits_last (suc k) n =
     rw (deeper, ← bits_last k n) refl
 
 -- a number has no bit above its first k
-pub bits_above : (k n : ℕ) → n < 2 ^ k → bits (suc k) n ≡ false ∷ bits k n
+bits_above : (k n : ℕ) → n < 2 ^ k → bits (suc k) n ≡ false ∷ bits k n
 unfolding bits
 bits_above k n h =
     let wide : n < 2 ^ (0 + k) = rw (zero-add k) h in
@@ -95,7 +95,8 @@ abbrev pub partial_product : ℕ → ℕ → ℕ → List Bool
 partial_product i left right = remainder low_terms (polynomial_product (bits i left) (bits 128 right))
 
 partial_product_more : (i left right : ℕ) → partial_product (suc i) left right
-    ≡ polynomial_sum (polynomial_scaled (eqb (left / 2 ^ i % 2) 1) (bits 128 right)) (reduced low_terms (false ∷ partial_product i left right))
+    ≡ polynomial_sum (polynomial_scaled (eqb (left / 2 ^ i % 2) 1) (bits 128 right))
+    (reduced low_terms (false ∷ partial_product i left right))
 unfolding bits
 partial_product_more i left right =
     remainder_product low_terms (eqb (left / 2 ^ i % 2) 1) (bits i left) (bits 128 right) (length-bits 128 right ∙ sym length-low_terms)

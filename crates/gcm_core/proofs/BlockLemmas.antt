@@ -17,7 +17,7 @@ pow_eight (suc n) =
     rw (more, pow-add 2 (8 * n) 8, pow_eight n) (sym (pow-suc 256 n))
 
 -- the bits of a number from bit k on, and those below
-pub bits-add : (j k n : ℕ) → bits (j + k) n ≡ bits j (n / 2 ^ k) ++ bits k n
+bits-add : (j k n : ℕ) → bits (j + k) n ≡ bits j (n / 2 ^ k) ++ bits k n
 unfolding bits
 bits-add zero k n = rw (zero-add k) refl
 bits-add (suc j) k n =
@@ -26,7 +26,7 @@ bits-add (suc j) k n =
     rw (more, deeper, ← bits-add j k n) refl
 
 -- bits below k are those of the number below
-pub bits_low : (j k a r : ℕ) → j ≤ k → bits j (a * 2 ^ k + r) ≡ bits j r
+bits_low : (j k a r : ℕ) → j ≤ k → bits j (a * 2 ^ k + r) ≡ bits j r
 unfolding bits
 bits_low zero k a r h = refl
 bits_low (suc j) k a r h = rw (bit_at_cat_low a k r j (omega arith), bits_low j k a r (omega arith)) refl
@@ -56,9 +56,10 @@ Bytes_zeros (suc n) = (omega arith, Bytes_zeros n)
 
 value_below : (bytes : List ℕ) → Bytes bytes → value bytes < 256 ^ length bytes
 value_below [] h = omega arith
-value_below (b ∷ bytes) h = rw (pow-suc 256 (length bytes)) (mul-add-lt b (256 ^ length bytes) (value bytes) 256 h.0 (value_below bytes h.1))
+value_below (b ∷ bytes) h =
+    rw (pow-suc 256 (length bytes)) (mul-add-lt b (256 ^ length bytes) (value bytes) 256 h.0 (value_below bytes h.1))
 
-pub bits-value : (bytes : List ℕ) → Bytes bytes → bits (8 * length bytes) (value bytes) ≡ polynomial_of bytes
+bits-value : (bytes : List ℕ) → Bytes bytes → bits (8 * length bytes) (value bytes) ≡ polynomial_of bytes
 unfolding bits
 bits-value [] h = refl
 bits-value (b ∷ bytes) h =
@@ -86,9 +87,16 @@ worth_through (b ∷ bytes) top (suc j) h g =
     let one_less : top - j ≡ suc (top - suc j) = omega arith in
     let grown : value (take (suc (suc j)) (b ∷ bytes)) ≡ value (take (suc j) (b ∷ bytes)) * 256 + get_or (b ∷ bytes) (suc j) 0 =
     ap value (take-suc (b ∷ bytes) (suc j) 0 g) ∙ value_push (take (suc j) (b ∷ bytes)) (get_or (b ∷ bytes) (suc j) 0) in
-    rw (worth_through (b ∷ bytes) top j (omega arith) (omega arith), one_less, pow-suc 256 (top - suc j), byte_worth_is (top - suc j) (slice_index (b ∷ bytes) (suc j)), grown) (omega arith)
+    rw (
+      worth_through (b ∷ bytes) top j (omega arith) (omega arith),
+      one_less,
+      pow-suc 256 (top - suc j),
+      byte_worth_is (top - suc j)
+          (slice_index (b ∷ bytes) (suc j)),
+      grown,
+    ) (omega arith)
 
-pub from_be_bytes_value : (bytes : List ℕ) → length bytes ≡ 16 → from_be_bytes w128 bytes ≡ value bytes
+from_be_bytes_value : (bytes : List ℕ) → length bytes ≡ 16 → from_be_bytes w128 bytes ≡ value bytes
 from_be_bytes_value bytes h =
     worth_through bytes 15 15 (omega arith) (omega arith) ∙ rw (take_all 16 bytes (omega arith)) (omega arith)
 
@@ -110,7 +118,17 @@ worth_bit w x = worth_of w (x % 2) (omega arith)
 block_of_byte : (m : ℕ) (p : List Bool) → block_of (bits 8 m ++ p) ≡ m % 256 ∷ block_of p
 unfolding bits
 block_of_byte m p =
-    rw (worth_bit 128 (m / 128), worth_bit 64 (m / 64), worth_bit 32 (m / 32), worth_bit 16 (m / 16), worth_bit 8 (m / 8), worth_bit 4 (m / 4), worth_bit 2 (m / 2), worth_bit 1 (m / 1))
+    rw (
+      worth_bit 128 (m / 128),
+      worth_bit 64 (m / 64),
+      worth_bit 32 (m / 32),
+      worth_bit 16 (m / 16),
+      worth_bit 8 (m / 8),
+      worth_bit 4
+          (m / 4),
+      worth_bit 2 (m / 2),
+      worth_bit 1 (m / 1),
+    )
     (ap (λ (b : ℕ). b ∷ block_of p) (omega arith))
 
 byte_at_is : (k n : ℕ) → n / 256 ^ k % 256 ≡ byte_at k n

@@ -16,8 +16,10 @@ pub counted_is : (block ys : List ℕ) (last sum count : ℕ) → length block �
 unfolding counted
 counted_is block ys last sum count size l s e =
     let after : drop 4 (drop 12 block) ≡ [] = drop_all 4 (drop 12 block) (omega (arith, length-drop 12 block)) in
-    let same : last ≡ from_be_bytes w32 (drop 12 block) = l ∙ rw (get_or-drop 12 block 0 0, get_or-drop 12 block 1 0, get_or-drop 12 block 2 0, get_or-drop 12 block 3 0) refl in
-    ap (λ (t : List ℕ). take 12 block ++ (ys ++ t)) after ∙ ap (λ (t : List ℕ). take 12 block ++ t) (append-nil ys ∙ e ∙ ap (to_be_bytes w32) (s ∙ ap (λ (n : ℕ). (n + count) % 2 ^ 32) same))
+    let same : last ≡ from_be_bytes w32 (drop 12 block) =
+    l ∙ rw (get_or-drop 12 block 0 0, get_or-drop 12 block 1 0, get_or-drop 12 block 2 0, get_or-drop 12 block 3 0) refl in
+    ap (λ (t : List ℕ). take 12 block ++ (ys ++ t)) after
+    ∙ ap (λ (t : List ℕ). take 12 block ++ t) (append-nil ys ∙ e ∙ ap (to_be_bytes w32) (s ∙ ap (λ (n : ℕ). (n + count) % 2 ^ 32) same))
 
 -- ---- bytes added
 
@@ -26,19 +28,22 @@ length-bytes_sum [] b h = refl
 length-bytes_sum (x ∷ a) [] h = absurd (omega arith)
 length-bytes_sum (x ∷ a) (y ∷ b) h = omega (arith, length-bytes_sum a b (omega arith))
 
-bytes_sum_push : (a b : List ℕ) (x : ℕ) → length a < length b → bytes_sum (a ++ x ∷ []) b ≡ bytes_sum a b ++ bit_xor x (get_or b (length a) 0) ∷ []
+bytes_sum_push : (a b : List ℕ) (x : ℕ) → length a < length b
+    → bytes_sum (a ++ x ∷ []) b ≡ bytes_sum a b ++ bit_xor x (get_or b (length a) 0) ∷ []
 bytes_sum_push a [] x h = absurd (omega arith)
 bytes_sum_push [] (y ∷ b) x h = refl
 bytes_sum_push (z ∷ a) (y ∷ b) x h = ap (λ (t : List ℕ). bit_xor z y ∷ t) (bytes_sum_push a b x (omega arith))
 
 -- one byte more of a sum in place
-pub bytes_sum_more : (a b now : List ℕ) (i x : ℕ) → i < length a → i < length b → now ≡ bytes_sum (take i a) b ++ drop i a → x ≡ get_or now i 0
+pub bytes_sum_more : (a b now : List ℕ) (i x : ℕ) → i < length a → i < length b → now ≡ bytes_sum (take i a) b ++ drop i a
+    → x ≡ get_or now i 0
     → set now i (bit_xor x (get_or b i 0)) ≡ bytes_sum (take (i + 1) a) b ++ drop (i + 1) a
 bytes_sum_more a b now i x h g n e =
     let size : length (take i a) ≡ i = length-take-le i a (omega arith) in
     let done : length (bytes_sum (take i a) b) ≡ i = length-bytes_sum (take i a) b (omega arith) ∙ size in
     let next : ℕ = get_or a i 0 in
-    let split : now ≡ bytes_sum (take i a) b ++ next ∷ drop (i + 1) a = n ∙ ap (λ (t : List ℕ). bytes_sum (take i a) b ++ t) (drop_more a i 0 h) in
+    let split : now ≡ bytes_sum (take i a) b ++ next ∷ drop (i + 1) a =
+    n ∙ ap (λ (t : List ℕ). bytes_sum (take i a) b ++ t) (drop_more a i 0 h) in
     let read : x ≡ next = e ∙ ap (λ (t : List ℕ). get_or t i 0) split ∙ get_or_at (bytes_sum (take i a) b) next (drop (i + 1) a) 0 i done in
     let wrote : set now i (bit_xor x (get_or b i 0)) ≡ bytes_sum (take i a) b ++ bit_xor next (get_or b i 0) ∷ drop (i + 1) a =
     rw (split, read) (set_at (bytes_sum (take i a) b) next (drop (i + 1) a) (bit_xor next (get_or b i 0)) i done) in
@@ -47,20 +52,20 @@ bytes_sum_more a b now i x h g n e =
     ∙ ap (λ (j : ℕ). bytes_sum (take i a) b ++ bit_xor next (get_or b j 0) ∷ []) size in
     wrote ∙ sym (rw grown (append_assoc (bytes_sum (take i a) b) (bit_xor next (get_or b i 0) ∷ []) (drop (i + 1) a)))
 
-pub bytes_sum_all : (a b now : List ℕ) (i : ℕ) → length a ≤ i → now ≡ bytes_sum (take i a) b ++ drop i a → now ≡ bytes_sum a b
-bytes_sum_all a b now i h n = n ∙ rw (take_all i a h, drop_all i a h, append-nil) refl
-
 -- ---- the body
 
 module _ (e : List ℕ → List ℕ) (first : List ℕ) where
   pub length-counter_mode_from : (i : ℕ) (bytes : List ℕ) → length (counter_mode_from e first i bytes) ≡ length bytes
-  length-counter_mode_from i bytes = length-map (enumerate_from i bytes) (λ p. bit_xor p.1 (key_stream e first p.0)) ∙ length-enumerate_from i bytes
+  length-counter_mode_from i bytes = length-map (enumerate_from i bytes) (λ p. bit_xor p.1 (key_stream e first p.0))
+      ∙ length-enumerate_from i bytes
 
-  counter_mode_from-append : (i : ℕ) (a b : List ℕ) → counter_mode_from e first i (a ++ b) ≡ counter_mode_from e first i a ++ counter_mode_from e first (i + length a) b
+  counter_mode_from-append : (i : ℕ) (a b : List ℕ)
+      → counter_mode_from e first i (a ++ b) ≡ counter_mode_from e first i a ++ counter_mode_from e first (i + length a) b
   counter_mode_from-append i [] b = rw (add-zero i) refl
   counter_mode_from-append i (x ∷ a) b =
       ap (λ (t : List ℕ). bit_xor x (key_stream e first i) ∷ t)
-      (counter_mode_from-append (i + 1) a b ∙ ap (λ (n : ℕ). counter_mode_from e first (i + 1) a ++ counter_mode_from e first n b) (omega arith))
+      (counter_mode_from-append (i + 1) a b
+      ∙ ap (λ (n : ℕ). counter_mode_from e first (i + 1) a ++ counter_mode_from e first n b) (omega arith))
 
   -- within a block
   counter_mode_block : (k j : ℕ) (bytes stream : List ℕ) → stream ≡ e (counted first (k + 1)) → length stream ≡ 16 → j + length bytes ≤ 16
@@ -93,12 +98,14 @@ module _ (e : List ℕ → List ℕ) (first : List ℕ) where
       let after : drop (end - start) (drop start now) ≡ drop 16 left = rw (rest, cut) (drop_min 16 left) in
       let fits : 0 + length (take 16 left) ≤ 16 = omega (arith, length-take 16 left) in
       let block : counter_mode_from e first start (take 16 left) ≡ slice =
-      ap (λ (i : ℕ). counter_mode_from e first i (take 16 left)) (sym (add-zero start)) ∙ counter_mode_block k 0 (take 16 left) stream s size fits
+      ap (λ (i : ℕ). counter_mode_from e first i (take 16 left)) (sym (add-zero start))
+      ∙ counter_mode_block k 0 (take 16 left) stream s size fits
       ∙ sym (q ∙ ap (λ (t : List ℕ). bytes_sum t stream) part_is) in
       let up : 16 * (k + 1) ≡ start + 16 = omega arith in
       let grown : counter_mode_from e first 0 (take (start + 16) old) ≡ done ++ slice =
       ap (counter_mode_from e first 0) (take-add start 16 old) ∙ counter_mode_from-append 0 (take start old) (take 16 left)
-      ∙ ap (λ (i : ℕ). done ++ counter_mode_from e first i (take 16 left)) (zero-add (length (take start old)) ∙ taken) ∙ ap (λ (t : List ℕ). done ++ t) block in
+      ∙ ap (λ (i : ℕ). done ++ counter_mode_from e first i (take 16 left)) (zero-add (length (take start old)) ∙ taken)
+      ∙ ap (λ (t : List ℕ). done ++ t) block in
       let made : new ≡ done ++ (slice ++ drop 16 left) = r ∙ rw (front, after) refl in
       made ∙ sym (rw (up, grown, ← drop-drop 16 start old) (append_assoc done slice (drop 16 left)))
 

@@ -12,10 +12,12 @@ use Rattle.gcm_core.proofs.BlockLemmas.{Bytes_from, Bytes-append, Bytes_zeros, b
 
 -- what filled_block computes
 pub filled_block_bits : (bytes ys : List ℕ) (number : ℕ) → length bytes ≤ 16 → ((i : ℕ) → get_or bytes i 0 < 256) → ys ≡ bytes
-    → number ≡ from_be_bytes w128 (ys ++ post_of 0 (length bytes) (replicate 16 0)) → bits 128 number ≡ polynomial_of (bytes ++ replicate (16 - length bytes) 0)
+    → number ≡ from_be_bytes w128 (ys ++ post_of 0 (length bytes) (replicate 16 0))
+    → bits 128 number ≡ polynomial_of (bytes ++ replicate (16 - length bytes) 0)
 filled_block_bits bytes ys number h b e n =
     let zeros : List ℕ = replicate (16 - length bytes) 0 in
-    let block : ys ++ post_of 0 (length bytes) (replicate 16 0) ≡ bytes ++ zeros = rw e (ap (λ (z : List ℕ). bytes ++ z) (drop-replicate (length bytes) 16 0)) in
+    let block : ys ++ post_of 0 (length bytes) (replicate 16 0) ≡ bytes ++ zeros =
+    rw e (ap (λ (z : List ℕ). bytes ++ z) (drop-replicate (length bytes) 16 0)) in
     let whole : length (bytes ++ zeros) ≡ 16 = omega (arith, length-append bytes zeros, length-replicate {A = ℕ} (16 - length bytes) 0) in
     ap (bits 128) n ∙ ap (λ (x : List ℕ). bits 128 (from_be_bytes w128 x)) block
     ∙ bits-from_be_bytes (bytes ++ zeros) whole (Bytes-append bytes zeros (Bytes_from bytes b) (Bytes_zeros (16 - length bytes)))
@@ -31,7 +33,7 @@ hash_of_blocks-append h p x (suc n) g =
     rw (block, hash_of_blocks-append h p x n (omega arith)) refl
 
 -- the hash after one block more
-pub Hashes_more : (h : List Bool) (before block : List ℕ) (number b next : ℕ) → Hashes h before number → length block ≡ 16
+Hashes_more : (h : List Bool) (before block : List ℕ) (number b next : ℕ) → Hashes h before number → length block ≡ 16
     → bits 128 b ≡ polynomial_of block → bits 128 next ≡ block_product (bits 128 (bit_xor number b)) h → Hashes h (before ++ block) next
 unfolding hash_of_blocks
 Hashes_more h before block number b next held size is after =
@@ -58,31 +60,46 @@ take_filled bytes k e h g =
           let size : e - 16 * k ≡ length rest = omega arith in
           let zeros : z ≡ 16 - length rest = omega arith in
           rw (cut, size, zeros, take_all (length rest) rest (omega arith))
-          (take_all 16 (rest ++ replicate (16 - length rest) 0) (omega (arith, length-append rest (replicate (16 - length rest) 0), length-replicate {A = ℕ} (16 - length rest) 0)))
+          (take_all 16 (rest ++ replicate (16 - length rest) 0) (omega (
+            arith,
+            length-append rest (replicate (16 - length rest) 0),
+            length-replicate {A = ℕ} (16 - length rest) 0,
+          )))
       | inr long ↦
           let size : e - 16 * k ≡ 16 = omega arith in
           rw (cut, size) (take-append-le 16 rest (replicate z 0) long ∙ sym (append-nil (take 16 rest)))
     ]
 
 -- one step of absorb
-pub Hashes_block : (h : List Bool) (before bytes slice : List ℕ) (k e number b next : ℕ) → 16 * k < length bytes → e ≡ min (length bytes) (16 * k + 16)
+pub Hashes_block : (h : List Bool) (before bytes slice : List ℕ) (k e number b next : ℕ) → 16 * k < length bytes
+    → e ≡ min (length bytes) (16 * k + 16)
     → slice ≡ take (e - 16 * k) (drop (16 * k) bytes) → Hashes h (before ++ take (16 * k) (filled bytes)) number
     → bits 128 b ≡ polynomial_of (slice ++ replicate (16 - length slice) 0) → bits 128 next ≡ block_product (bits 128 (bit_xor number b)) h
     → Hashes h (before ++ take (16 * (k + 1)) (filled bytes)) next
 Hashes_block h before bytes slice k e number b next within g s held is after =
-    let size : length slice ≡ e - 16 * k = ap length s ∙ length-take-le (e - 16 * k) (drop (16 * k) bytes) (omega (arith, length-drop (16 * k) bytes)) in
+    let size : length slice ≡ e - 16 * k =
+    ap length s ∙ length-take-le (e - 16 * k) (drop (16 * k) bytes) (omega (arith, length-drop (16 * k) bytes)) in
     let block : take 16 (drop (16 * k) (filled bytes)) ≡ slice ++ replicate (16 - length slice) 0 =
     take_filled bytes k e within g ∙ rw (← s, size) refl in
-    let whole : length (slice ++ replicate (16 - length slice) 0) ≡ 16 = omega (arith, length-append slice (replicate (16 - length slice) 0), length-replicate {A = ℕ} (16 - length slice) 0) in
+    let whole : length (slice ++ replicate (16 - length slice) 0) ≡ 16 =
+    omega (arith, length-append slice (replicate (16 - length slice) 0), length-replicate {A = ℕ} (16 - length slice) 0) in
     let up : 16 * (k + 1) ≡ 16 * k + 16 = omega arith in
-    let grown : before ++ take (16 * (k + 1)) (filled bytes) ≡ (before ++ take (16 * k) (filled bytes)) ++ (slice ++ replicate (16 - length slice) 0) =
-    rw (up, take-add (16 * k) 16 (filled bytes), block) (sym (append_assoc before (take (16 * k) (filled bytes)) (slice ++ replicate (16 - length slice) 0))) in
-    rw grown (Hashes_more h (before ++ take (16 * k) (filled bytes)) (slice ++ replicate (16 - length slice) 0) number b next held whole is after)
+    let grown : before ++ take (16 * (k + 1)) (filled bytes) ≡ (before ++ take (16 * k) (filled bytes)) ++ (slice ++ replicate
+    (16 - length slice) 0) =
+    rw (up, take-add (16 * k) 16 (filled bytes), block) (sym (append_assoc before (take (16 * k) (filled bytes))
+    (slice ++ replicate (16 - length slice) 0))) in
+    rw grown (Hashes_more h (before ++ take (16 * k) (filled bytes)) (slice ++ replicate (16 - length slice) 0) number b next held whole is
+    after)
 
 -- after all the blocks the bytes are absorbed
 pub Hashes_all : (h : List Bool) (before bytes : List ℕ) (k number : ℕ) → k ≡ div_ceil (length bytes) 16
     → Hashes h (before ++ take (16 * k) (filled bytes)) number → Hashes h (before ++ filled bytes) number
 Hashes_all h before bytes k number e held =
     let all : take (16 * k) (filled bytes) ≡ filled bytes =
-    take_all (16 * k) (filled bytes) (omega (arith, length-append bytes (replicate ((16 - length bytes % 16) % 16) 0), length-replicate {A = ℕ} ((16 - length bytes % 16) % 16) 0)) in
+    take_all (16 * k) (filled bytes) (omega (
+      arith,
+      length-append bytes (replicate ((16 - length bytes % 16) % 16) 0),
+      length-replicate
+          {A = ℕ} ((16 - length bytes % 16) % 16) 0,
+    )) in
     rw all at held

@@ -33,7 +33,7 @@ and-xor false b c = refl
 
 -- ---- sums
 
-pub sum_nil : (p : List Bool) → polynomial_sum p [] ≡ p
+sum_nil : (p : List Bool) → polynomial_sum p [] ≡ p
 sum_nil [] = refl
 sum_nil (a ∷ p) = refl
 
@@ -42,14 +42,15 @@ sum_comm [] q = sym (sum_nil q)
 sum_comm (a ∷ p) [] = refl
 sum_comm (a ∷ p) (b ∷ q) = rw (xor_comm a b, sum_comm p q) refl
 
-pub sum_assoc : (p q r : List Bool) → polynomial_sum (polynomial_sum p q) r ≡ polynomial_sum p (polynomial_sum q r)
+sum_assoc : (p q r : List Bool) → polynomial_sum (polynomial_sum p q) r ≡ polynomial_sum p (polynomial_sum q r)
 sum_assoc [] q r = refl
 sum_assoc (a ∷ p) [] r = refl
 sum_assoc (a ∷ p) (b ∷ q) [] = refl
 sum_assoc (a ∷ p) (b ∷ q) (c ∷ r) = rw (xor_assoc a b c, sum_assoc p q r) refl
 
 -- the inner two of four change places
-pub sum_swap : (p q r s : List Bool) → polynomial_sum (polynomial_sum p q) (polynomial_sum r s) ≡ polynomial_sum (polynomial_sum p r) (polynomial_sum q s)
+sum_swap : (p q r s : List Bool)
+    → polynomial_sum (polynomial_sum p q) (polynomial_sum r s) ≡ polynomial_sum (polynomial_sum p r) (polynomial_sum q s)
 sum_swap p q r s =
     sum_assoc p q (polynomial_sum r s)
     ∙ ap (polynomial_sum p) (sym (sum_assoc q r s) ∙ ap (λ (t : List Bool). polynomial_sum t s) (sum_comm q r) ∙ sum_assoc r q s)
@@ -61,12 +62,12 @@ coefficient-sum (a ∷ p) [] i = sym (xor_zero (coefficient (a ∷ p) i))
 coefficient-sum (a ∷ p) (b ∷ q) zero = refl
 coefficient-sum (a ∷ p) (b ∷ q) (suc i) = coefficient-sum p q i
 
-pub length-sum : (p q : List Bool) (n : ℕ) → length p ≡ n → length q ≡ n → length (polynomial_sum p q) ≡ n
+length-sum : (p q : List Bool) (n : ℕ) → length p ≡ n → length q ≡ n → length (polynomial_sum p q) ≡ n
 length-sum [] q n e h = h
 length-sum (a ∷ p) [] n e h = e
 length-sum (a ∷ p) (b ∷ q) n e h = omega (arith, length-sum p q (n - 1) (omega arith) (omega arith))
 
-pub take-sum : (n : ℕ) (p q : List Bool) → take n (polynomial_sum p q) ≡ polynomial_sum (take n p) (take n q)
+take-sum : (n : ℕ) (p q : List Bool) → take n (polynomial_sum p q) ≡ polynomial_sum (take n p) (take n q)
 take-sum zero p q = refl
 take-sum (suc n) [] q = refl
 take-sum (suc n) (a ∷ p) [] = refl
@@ -92,7 +93,8 @@ pub scaled_true : (q : List Bool) → polynomial_scaled true q ≡ q
 scaled_true [] = refl
 scaled_true (b ∷ q) = ap (λ (t : List Bool). b ∷ t) (scaled_true q)
 
-pub scaled-xor : (a b : Bool) (q : List Bool) → polynomial_scaled (xor a b) q ≡ polynomial_sum (polynomial_scaled a q) (polynomial_scaled b q)
+pub scaled-xor : (a b : Bool) (q : List Bool)
+    → polynomial_scaled (xor a b) q ≡ polynomial_sum (polynomial_scaled a q) (polynomial_scaled b q)
 scaled-xor a b [] = refl
 scaled-xor a b (c ∷ q) = rw (and-xor a b c, scaled-xor a b q) refl
 
@@ -101,7 +103,7 @@ length-scaled a q = length-map q (λ b. a && b)
 
 -- ---- remainders
 
-pub length-reduced : (low p : List Bool) → length low ≤ length p → length (reduced low p) ≡ length low
+length-reduced : (low p : List Bool) → length low ≤ length p → length (reduced low p) ≡ length low
 unfolding reduced
 length-reduced low p h =
     length-sum (take (length low) p) (polynomial_scaled (coefficient p (length low)) low) (length low)
@@ -112,13 +114,19 @@ unfolding remainder
 length-remainder low [] = length-replicate (length low) false
 length-remainder low (a ∷ p) = length-reduced low (a ∷ remainder low p) (omega (arith, length-remainder low p))
 
-pub reduced-sum : (low p q : List Bool) → reduced low (polynomial_sum p q) ≡ polynomial_sum (reduced low p) (reduced low q)
+reduced-sum : (low p q : List Bool) → reduced low (polynomial_sum p q) ≡ polynomial_sum (reduced low p) (reduced low q)
 unfolding reduced
 reduced-sum low p q =
-    rw (take-sum (length low) p q, coefficient-sum p q (length low), scaled-xor (coefficient p (length low)) (coefficient q (length low)) low)
-    (sum_swap (take (length low) p) (take (length low) q) (polynomial_scaled (coefficient p (length low)) low) (polynomial_scaled (coefficient q (length low)) low))
+    rw (
+      take-sum (length low) p q,
+      coefficient-sum p q (length low),
+      scaled-xor (coefficient p (length low)) (coefficient q (length low))
+          low,
+    )
+    (sum_swap (take (length low) p) (take (length low) q) (polynomial_scaled (coefficient p (length low)) low)
+    (polynomial_scaled (coefficient q (length low)) low))
 
-pub remainder-sum : (low p q : List Bool) → remainder low (polynomial_sum p q) ≡ polynomial_sum (remainder low p) (remainder low q)
+remainder-sum : (low p q : List Bool) → remainder low (polynomial_sum p q) ≡ polynomial_sum (remainder low p) (remainder low q)
 unfolding remainder
 remainder-sum low [] q = sym (zeros_sum (remainder low q) (length low) (length-remainder low q))
 remainder-sum low (a ∷ p) [] = sym (sum_zeros (remainder low (a ∷ p)) (length low) (length-remainder low (a ∷ p)))
@@ -126,30 +134,32 @@ remainder-sum low (a ∷ p) (b ∷ q) =
     rw (remainder-sum low p q) (reduced-sum low (a ∷ remainder low p) (b ∷ remainder low q))
 
 -- a polynomial that is filled up with zero coefficients has no others
-pub coefficient_padded : (p : List Bool) (k i : ℕ) → length p ≤ i → coefficient (p ++ replicate k false) i ≡ false
+coefficient_padded : (p : List Bool) (k i : ℕ) → length p ≤ i → coefficient (p ++ replicate k false) i ≡ false
 coefficient_padded [] zero i h = refl
 coefficient_padded [] (suc k) zero h = refl
 coefficient_padded [] (suc k) (suc i) h = coefficient_padded [] k i (omega arith)
 coefficient_padded (a ∷ p) k zero h = absurd (omega arith)
 coefficient_padded (a ∷ p) k (suc i) h = coefficient_padded p k i (omega arith)
 
-pub take_padded : (p : List Bool) (k j : ℕ) → j ≤ k → take (length p + j) (p ++ replicate k false) ≡ p ++ replicate j false
+take_padded : (p : List Bool) (k j : ℕ) → j ≤ k → take (length p + j) (p ++ replicate k false) ≡ p ++ replicate j false
 take_padded p k j h = take-append-add p (replicate k false) j ∙ ap (λ (t : List Bool). p ++ t) (take-replicate j k false h)
 
 -- a short polynomial is its own remainder, filled up with zero coefficients
-pub remainder_short : (low p : List Bool) (k : ℕ) → length p + k ≡ length low → remainder low p ≡ p ++ replicate k false
+remainder_short : (low p : List Bool) (k : ℕ) → length p + k ≡ length low → remainder low p ≡ p ++ replicate k false
 unfolding remainder reduced
 remainder_short low [] k h = ap (λ (n : ℕ). replicate n false) (sym h ∙ omega arith)
 remainder_short low (a ∷ p) k h =
     let rest : remainder low p ≡ p ++ replicate (suc k) false = remainder_short low p (suc k) (omega arith) in
-    let top : coefficient (a ∷ (p ++ replicate (suc k) false)) (length low) ≡ false = coefficient_padded (a ∷ p) (suc k) (length low) (omega arith) in
+    let top : coefficient (a ∷ (p ++ replicate (suc k) false)) (length low) ≡ false =
+    coefficient_padded (a ∷ p) (suc k) (length low) (omega arith) in
     let front : take (length low) (a ∷ (p ++ replicate (suc k) false)) ≡ a ∷ (p ++ replicate k false) =
     ap (λ (n : ℕ). take n (a ∷ (p ++ replicate (suc k) false))) (sym h) ∙ take_padded (a ∷ p) (suc k) k (omega arith) in
-    let len : length (a ∷ (p ++ replicate k false)) ≡ length low = omega (arith, length-append p (replicate k false), length-replicate k false) in
+    let len : length (a ∷ (p ++ replicate k false)) ≡ length low =
+    omega (arith, length-append p (replicate k false), length-replicate k false) in
     rw (rest, top, front, scaled_false low) (sum_zeros (a ∷ (p ++ replicate k false)) (length low) len)
 
 -- a polynomial of as many coefficients as the remainders is its own remainder
-pub remainder_same : (low p : List Bool) → length p ≡ length low → remainder low p ≡ p
+remainder_same : (low p : List Bool) → length p ≡ length low → remainder low p ≡ p
 remainder_same low p h = remainder_short low p 0 (omega arith) ∙ append-nil p
 
 -- the remainder of a product, by the last factor's multiples

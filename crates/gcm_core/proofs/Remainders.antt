@@ -5,9 +5,6 @@ use Rattle.std.proofs.lemmas.Bool.{cases_order}
 use Rattle.gcm_core.specs.Polynomial.{coefficient, coefficient_sum, polynomial_sum, polynomial_scaled, polynomial_product, modulus, reduced, remainder, IsRemainder}
 use Rattle.gcm_core.proofs.PolynomialLemmas.{xor_zero, and-xor, xor_comm, xor_assoc, coefficient-sum, length-remainder}
 
-coefficient_none : (i : ℕ) → coefficient [] i ≡ false
-coefficient_none i = refl
-
 coefficient-scaled : (a : Bool) (q : List Bool) (i : ℕ) → coefficient (polynomial_scaled a q) i ≡ (a && coefficient q i)
 coefficient-scaled true [] i = refl
 coefficient-scaled false [] i = refl
@@ -102,17 +99,20 @@ unfolding remainder quotient
 remainder_multiple low [] i = sym (coefficient-zeros (length low) i)
 remainder_multiple low (a ∷ p) i =
     let r : List Bool = remainder low p in
-    let m : Bool = coefficient (a ∷ r) (length low) && coefficient (modulus low) i in
-    let x : Bool = coefficient (false ∷ polynomial_product (quotient low p) (modulus low)) i in
-    let product : coefficient (polynomial_sum (polynomial_scaled (coefficient (a ∷ r) (length low)) (modulus low)) (false ∷ polynomial_product (quotient low p) (modulus low))) i
-    ≡ coefficient_sum m x = coefficient_product (coefficient (a ∷ r) (length low)) (quotient low p) (modulus low) i in
+    let c : Bool = coefficient (a ∷ r) (length low) in
+    let qm : List Bool = polynomial_product (quotient low p) (modulus low) in
+    let m : Bool = c && coefficient (modulus low) i in
+    let x : Bool = coefficient (false ∷ qm) i in
+    let product : coefficient (polynomial_sum (polynomial_scaled c (modulus low)) (false ∷ qm)) i ≡ coefficient_sum m x =
+    coefficient_product c (quotient low p) (modulus low) i in
     let left : coefficient (reduced low (a ∷ r)) i ≡ coefficient_sum (coefficient (a ∷ r) i) m =
     coefficient-reduced low (a ∷ r) i (ap suc (length-remainder low p)) in
-    let whole : coefficient (a ∷ p) i ≡ coefficient_sum x (coefficient (a ∷ r) i) = one_more a p r (polynomial_product (quotient low p) (modulus low)) i (remainder_multiple low p) in
-    whole ∙ sym (coefficient-sum (polynomial_sum (polynomial_scaled (coefficient (a ∷ r) (length low)) (modulus low)) (false ∷ polynomial_product (quotient low p) (modulus low))) (reduced low (a ∷ r)) i
+    let whole : coefficient (a ∷ p) i ≡ coefficient_sum x (coefficient (a ∷ r) i) = one_more a p r qm i (remainder_multiple low p) in
+    whole
+    ∙ sym (coefficient-sum (polynomial_sum (polynomial_scaled c (modulus low)) (false ∷ qm)) (reduced low (a ∷ r)) i
     ∙ rw (product, left) (cancels_between m x (coefficient (a ∷ r) i)))
 
-pub remainder_IsRemainder : (low p : List Bool) → IsRemainder low p (remainder low p)
+remainder_IsRemainder : (low p : List Bool) → IsRemainder low p (remainder low p)
 remainder_IsRemainder low p = record { short = length-remainder low p; multiple = (quotient low p, remainder_multiple low p) }
 
 -- ---- and no other list does
@@ -126,7 +126,8 @@ moved_sum : (m a b : List Bool) → ((k : ℕ) → coefficient m k ≡ coefficie
 moved_sum m a b h zero = refl
 moved_sum m a b h (suc k) = h k
 
-xor_swap : (a b x y : Bool) → coefficient_sum (coefficient_sum a b) (coefficient_sum x y) ≡ coefficient_sum (coefficient_sum a x) (coefficient_sum b y)
+xor_swap : (a b x y : Bool)
+    → coefficient_sum (coefficient_sum a b) (coefficient_sum x y) ≡ coefficient_sum (coefficient_sum a x) (coefficient_sum b y)
 xor_swap a b x y =
     xor_assoc a b (coefficient_sum x y)
     ∙ ap (coefficient_sum a) (sym (xor_assoc b x y) ∙ ap (λ (t : Bool). coefficient_sum t y) (xor_comm b x) ∙ xor_assoc x b y)
@@ -144,14 +145,14 @@ no_multiple : (low q : List Bool) → ((i : ℕ) → length low ≤ i → coeffi
 no_multiple low [] h i = refl
 no_multiple low (a ∷ q) h i =
     let d : ℕ = length low in
-    let above : (k : ℕ) → d ≤ k → coefficient (polynomial_product q (modulus low)) k ≡ false =
-    λ k g. let none : coefficient (modulus low) (suc k) ≡ false = modulus_above low (suc k) (omega arith) in
-    let at : coefficient_sum (a && coefficient (modulus low) (suc k)) (coefficient (polynomial_product q (modulus low)) k) ≡ false =
+    let qm : List Bool = polynomial_product q (modulus low) in
+    let above : (k : ℕ) → d ≤ k → coefficient qm k ≡ false = λ k g.
+    let none : coefficient (modulus low) (suc k) ≡ false = modulus_above low (suc k) (omega arith) in
+    let sum : coefficient_sum (a && coefficient (modulus low) (suc k)) (coefficient qm k) ≡ false =
     sym (coefficient_product a q (modulus low) (suc k)) ∙ h (suc k) (omega arith) in
-    rw (none, and_off a) at at in
-    let rest : (k : ℕ) → coefficient (polynomial_product q (modulus low)) k ≡ false = no_multiple low q above in
-    let moved : (k : ℕ) → coefficient (false ∷ polynomial_product q (modulus low)) k ≡ false = moved_zeros (polynomial_product q (modulus low)) rest in
-    let top : coefficient_sum (a && coefficient (modulus low) d) (coefficient (false ∷ polynomial_product q (modulus low)) d) ≡ false =
+    rw (none, and_off a) at sum in
+    let moved : (k : ℕ) → coefficient (false ∷ qm) k ≡ false = moved_zeros qm (no_multiple low q above) in
+    let top : coefficient_sum (a && coefficient (modulus low) d) (coefficient (false ∷ qm) d) ≡ false =
     sym (coefficient_product a q (modulus low) d) ∙ h d (omega arith) in
     let off : a ≡ false = sym (xor_zero a) ∙ (rw (modulus_top low, moved d, and_on a) at top) in
     coefficient_product a q (modulus low) i ∙ rw (off, moved i) refl
@@ -162,12 +163,19 @@ coefficient_product-sum : (p q m : List Bool) (i : ℕ) → coefficient (polynom
 coefficient_product-sum [] q m i = refl
 coefficient_product-sum (a ∷ p) [] m i = sym (xor_zero (coefficient (polynomial_product (a ∷ p) m) i))
 coefficient_product-sum (a ∷ p) (b ∷ q) m i =
+    let am : Bool = a && coefficient m i in
+    let bm : Bool = b && coefficient m i in
+    let pm : List Bool = polynomial_product p m in
+    let qm : List Bool = polynomial_product q m in
+    let both : coefficient (false ∷ polynomial_product (polynomial_sum p q) m) i
+    ≡ coefficient_sum (coefficient (false ∷ pm) i) (coefficient (false ∷ qm) i) =
+    moved_sum (polynomial_product (polynomial_sum p q) m) pm qm (coefficient_product-sum p q m) i in
     let left : coefficient (polynomial_product (polynomial_sum (a ∷ p) (b ∷ q)) m) i
-    ≡ coefficient_sum (coefficient_sum (a && coefficient m i) (b && coefficient m i)) (coefficient_sum (coefficient (false ∷ polynomial_product p m) i) (coefficient (false ∷ polynomial_product q m) i)) =
-    coefficient_product (coefficient_sum a b) (polynomial_sum p q) m i
-    ∙ rw (and-xor a b (coefficient m i), moved_sum (polynomial_product (polynomial_sum p q) m) (polynomial_product p m) (polynomial_product q m) (coefficient_product-sum p q m) i) refl in
-    left ∙ rw (coefficient_product a p m i, coefficient_product b q m i)
-    (xor_swap (a && coefficient m i) (b && coefficient m i) (coefficient (false ∷ polynomial_product p m) i) (coefficient (false ∷ polynomial_product q m) i))
+    ≡ coefficient_sum (coefficient_sum am bm) (coefficient_sum (coefficient (false ∷ pm) i) (coefficient (false ∷ qm) i)) =
+    coefficient_product (coefficient_sum a b) (polynomial_sum p q) m i ∙ rw (and-xor a b (coefficient m i), both) refl in
+    left
+    ∙ rw (coefficient_product a p m i, coefficient_product b q m i)
+    (xor_swap am bm (coefficient (false ∷ pm) i) (coefficient (false ∷ qm) i))
 
 same_sums : (a b x y : Bool) → coefficient_sum a x ≡ coefficient_sum b y → coefficient_sum a b ≡ coefficient_sum x y
 same_sums true true true true h = refl
@@ -188,22 +196,26 @@ same_sums false false false true h = cc
 same_sums false false false false h = refl
 
 -- a list with what a remainder has is the remainder
-pub remainder_unique : (low p r : List Bool) → IsRemainder low p r → r ≡ remainder low p
+remainder_unique : (low p r : List Bool) → IsRemainder low p r → r ≡ remainder low p
 remainder_unique low p r is =
     let s : List Bool = remainder low p in
     let q : List Bool = is.multiple.0 in
     let t : List Bool = quotient low p in
-    let size : length r ≡ length s = is.short ∙ sym (length-remainder low p) in
-    let both : (i : ℕ) → coefficient (polynomial_product (polynomial_sum q t) (modulus low)) i ≡ coefficient_sum (coefficient r i) (coefficient s i) =
+    let qm : List Bool = polynomial_product q (modulus low) in
+    let tm : List Bool = polynomial_product t (modulus low) in
+    let sums : (i : ℕ) → coefficient_sum (coefficient qm i) (coefficient r i) ≡ coefficient_sum (coefficient tm i) (coefficient s i) =
+    λ i. sym (coefficient-sum qm r i) ∙ sym (is.multiple.1 i) ∙ remainder_multiple low p i ∙ coefficient-sum tm s i in
+    let both : (i : ℕ)
+    → coefficient (polynomial_product (polynomial_sum q t) (modulus low)) i ≡ coefficient_sum (coefficient r i) (coefficient s i) =
     λ i. coefficient_product-sum q t (modulus low) i
-    ∙ same_sums (coefficient (polynomial_product q (modulus low)) i) (coefficient (polynomial_product t (modulus low)) i) (coefficient r i) (coefficient s i)
-    (sym (coefficient-sum (polynomial_product q (modulus low)) r i) ∙ sym (is.multiple.1 i) ∙ remainder_multiple low p i ∙ coefficient-sum (polynomial_product t (modulus low)) s i) in
-    let zero_ : (i : ℕ) → coefficient (polynomial_product (polynomial_sum q t) (modulus low)) i ≡ false =
+    ∙ same_sums (coefficient qm i) (coefficient tm i) (coefficient r i) (coefficient s i) (sums i) in
+    let none : (i : ℕ) → coefficient (polynomial_product (polynomial_sum q t) (modulus low)) i ≡ false =
     no_multiple low (polynomial_sum q t) (λ i h.
     let left : coefficient r i ≡ false = get_or_past r i false (omega (arith, is.short)) in
     let right : coefficient s i ≡ false = get_or_past s i false (omega (arith, length-remainder low p)) in
     both i ∙ rw (left, right) refl) in
-    ext_get_or false r s size (λ i h. same_from_sum (coefficient r i) (coefficient s i) (sym (both i) ∙ zero_ i))
+    ext_get_or false r s (is.short ∙ sym (length-remainder low p))
+    (λ i h. same_from_sum (coefficient r i) (coefficient s i) (sym (both i) ∙ none i))
 
 pub remainder_exact : (low p r : List Bool) → (r ≡ remainder low p) ↔ IsRemainder low p r
 remainder_exact low p r = (λ e. subst (IsRemainder low p) (sym e) (remainder_IsRemainder low p), remainder_unique low p r)

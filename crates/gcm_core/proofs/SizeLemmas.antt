@@ -28,11 +28,13 @@ module _ (e : List ℕ → List ℕ) (blocks : GivesBlocks e) where
   key_stream_byte : (first : List ℕ) (i : ℕ) → key_stream e first i < 256
   unfolding key_stream
   key_stream_byte first i =
-      Bytes_at (e (counted first (i / 16 + 1))) (i % 16) (recursion_from_All (λ byte. byte < 256) (e (counted first (i / 16 + 1))) (blocks.bytes (counted first (i / 16 + 1))))
+      Bytes_at (e (counted first (i / 16 + 1))) (i % 16) (recursion_from_All (λ byte. byte < 256) (e (counted first (i / 16 + 1)))
+      (blocks.bytes (counted first (i / 16 + 1))))
 
   counter_mode_bytes : (first : List ℕ) (i : ℕ) (bytes : List ℕ) → Bytes bytes → Bytes (counter_mode_from e first i bytes)
   counter_mode_bytes first i [] h = tt
-  counter_mode_bytes first i (b ∷ bytes) h = (xor_of_8 b (key_stream e first i) h.0 (key_stream_byte first i), counter_mode_bytes first (i + 1) bytes h.1)
+  counter_mode_bytes first i (b ∷ bytes) h =
+      (xor_of_8 b (key_stream e first i) h.0 (key_stream_byte first i), counter_mode_bytes first (i + 1) bytes h.1)
 
   pub ciphered_bytes : (iv body : List ℕ) → All (λ byte. byte < 256) body → All (λ byte. byte < 256) (ciphered e iv body)
   unfolding ciphered counter_mode
@@ -60,8 +62,21 @@ worth_below n false = omega arith
 block_of_bytes : (k : ℕ) (p : List Bool) → length p ≡ 8 * k → Bytes (block_of p)
 block_of_bytes zero [] h = tt
 block_of_bytes zero (a ∷ p) h = absurd (omega arith)
-block_of_bytes (suc k) (a ∷ b ∷ c ∷ d ∷ e ∷ f ∷ g ∷ i ∷ p) h =
-    (omega (arith, worth_below 128 a, worth_below 64 b, worth_below 32 c, worth_below 16 d, worth_below 8 e, worth_below 4 f, worth_below 2 g, worth_below 1 i), block_of_bytes k p (omega arith))
+block_of_bytes (suc k) (a ∷ b ∷ c ∷ d ∷ e ∷ f ∷ g ∷ i ∷ p) h = (
+  omega (
+    arith,
+    worth_below 128 a,
+    worth_below 64 b,
+    worth_below 32 c,
+    worth_below 16 d,
+    worth_below 8 e,
+    worth_below 4 f,
+    worth_below 2
+        g,
+    worth_below 1 i,
+  ),
+  block_of_bytes k p (omega arith),
+)
 block_of_bytes (suc k) _ h = absurd (omega arith)
 
 bytes_sum_bytes : (a b : List ℕ) → Bytes a → Bytes b → Bytes (bytes_sum a b)
@@ -74,13 +89,16 @@ module _ (e : List ℕ → List ℕ) (iv aad ciphertext : List ℕ) (blocks : Gi
   unfolding tag_of
   length-tag_of =
       let bytes : List ℕ = filled aad ++ filled ciphertext ++ (length_in_bits (length aad) ++ length_in_bits (length ciphertext)) in
-      let size : length (block_of (ghash (hash_subkey e) bytes)) ≡ 16 = length-block_of 16 (ghash (hash_subkey e) bytes) (length-hash_of_blocks (hash_subkey e) bytes (length bytes / 16)) in
-      length-bytes_sum (e (first_block e iv)) (block_of (ghash (hash_subkey e) bytes)) (omega (arith, blocks.size (first_block e iv))) ∙ blocks.size (first_block e iv)
+      let size : length (block_of (ghash (hash_subkey e) bytes)) ≡ 16 =
+      length-block_of 16 (ghash (hash_subkey e) bytes) (length-hash_of_blocks (hash_subkey e) bytes (length bytes / 16)) in
+      length-bytes_sum (e (first_block e iv)) (block_of (ghash (hash_subkey e) bytes)) (omega (arith, blocks.size (first_block e iv)))
+      ∙ blocks.size (first_block e iv)
 
   pub tag_of_bytes : All (λ byte. byte < 256) (tag_of e iv aad ciphertext)
   unfolding tag_of
   tag_of_bytes =
       let bytes : List ℕ = filled aad ++ filled ciphertext ++ (length_in_bits (length aad) ++ length_in_bits (length ciphertext)) in
       All-from_recursion (λ byte. byte < 256) (tag_of e iv aad ciphertext)
-      (bytes_sum_bytes (e (first_block e iv)) (block_of (ghash (hash_subkey e) bytes)) (recursion_from_All (λ byte. byte < 256) (e (first_block e iv)) (blocks.bytes (first_block e iv)))
+      (bytes_sum_bytes (e (first_block e iv)) (block_of (ghash (hash_subkey e) bytes))
+      (recursion_from_All (λ byte. byte < 256) (e (first_block e iv)) (blocks.bytes (first_block e iv)))
       (block_of_bytes 16 (ghash (hash_subkey e) bytes) (length-hash_of_blocks (hash_subkey e) bytes (length bytes / 16))))

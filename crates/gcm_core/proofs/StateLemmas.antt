@@ -36,8 +36,10 @@ HasTaken_short nk s t aad byte held few size open_ e =
     let count : s.fed ≡ n = held.count in
     let whole : whole_len (aad ++ byte ∷ []) ≡ whole_len aad = omega arith in
     let used : length (aad ++ byte ∷ []) % 16 ≡ n % 16 + 1 = omega arith in
-    let front : take (whole_len aad) (aad ++ byte ∷ []) ≡ take (whole_len aad) aad = take-append-le (whole_len aad) aad (byte ∷ []) (omega arith) in
-    let back : drop (whole_len aad) (aad ++ byte ∷ []) ≡ drop (whole_len aad) aad ++ byte ∷ [] = drop-append-le (whole_len aad) aad (byte ∷ []) (omega arith) in
+    let front : take (whole_len aad) (aad ++ byte ∷ []) ≡ take (whole_len aad) aad =
+    take-append-le (whole_len aad) aad (byte ∷ []) (omega arith) in
+    let back : drop (whole_len aad) (aad ++ byte ∷ []) ≡ drop (whole_len aad) aad ++ byte ∷ [] =
+    drop-append-le (whole_len aad) aad (byte ∷ []) (omega arith) in
     let kept : take (n % 16 + 1) (set s.rest (n % 16) byte) ≡ drop (whole_len aad) aad ++ byte ∷ [] =
     take_more_set s.rest (n % 16) byte (omega arith) ∙ ap (λ (r : List ℕ). r ++ byte ∷ []) held.kept in
     rw e (record {
@@ -48,9 +50,11 @@ HasTaken_short nk s t aad byte held few size open_ e =
     })
 
 -- one byte more, which fills the block: the hash takes it in
-pub HasTaken_full : (nk : ℕ) (s t : GcmState) (aad : List ℕ) (byte subkey hash : ℕ) → HasTaken nk s aad → length aad < 2 ^ 61 - 1 → length s.rest ≡ 16
+pub HasTaken_full : (nk : ℕ) (s t : GcmState) (aad : List ℕ) (byte subkey hash : ℕ) → HasTaken nk s aad → length aad < 2 ^ 61 - 1
+    → length s.rest ≡ 16
     → s.fed % 16 ≡ 15 → bits 128 subkey ≡ hash_subkey (cipher nk s.key)
-    → ((before : List ℕ) → Hashes (bits 128 subkey) before s.hash → Hashes (bits 128 subkey) (before ++ filled (set s.rest (s.fed % 16) byte)) hash)
+    → ((before : List ℕ) → Hashes (bits 128 subkey) before s.hash
+    → Hashes (bits 128 subkey) (before ++ filled (set s.rest (s.fed % 16) byte)) hash)
     → t ≡ record { key = s.key; hash = hash; rest = set s.rest (s.fed % 16) byte; fed = (s.fed + 1) % 2 ^ 64 }
     → HasTaken nk t (aad ++ byte ∷ [])
 HasTaken_full nk s t aad byte subkey hash held few size full h absorbed e =
@@ -65,9 +69,11 @@ HasTaken_full nk s t aad byte subkey hash held few size full h absorbed e =
     let block_size : length (set s.rest (s.fed % 16) byte) % 16 ≡ 0 = rw (length-set s.rest (s.fed % 16) byte, size) refl in
     let grown : take (whole_len aad) aad ++ filled (set s.rest (s.fed % 16) byte) ≡ aad ++ byte ∷ [] =
     rw (filled_whole (set s.rest (s.fed % 16) byte) block_size, block)
-    (sym (append_assoc (take (whole_len aad) aad) (drop (whole_len aad) aad) (byte ∷ [])) ∙ ap (λ (r : List ℕ). r ++ byte ∷ []) (take-append-drop (whole_len aad) aad)) in
+    (sym (append_assoc (take (whole_len aad) aad) (drop (whole_len aad) aad) (byte ∷ []))
+    ∙ ap (λ (r : List ℕ). r ++ byte ∷ []) (take-append-drop (whole_len aad) aad)) in
     let before : Hashes (bits 128 subkey) (take (whole_len aad) aad) s.hash = rw h held.hashed in
-    let after : Hashes (hash_subkey (cipher nk s.key)) (aad ++ byte ∷ []) hash = rw (h, grown) at (absorbed (take (whole_len aad) aad) before) in
+    let after : Hashes (hash_subkey (cipher nk s.key)) (aad ++ byte ∷ []) hash =
+    rw (h, grown) at (absorbed (take (whole_len aad) aad) before) in
     let all : take (n + 1) (aad ++ byte ∷ []) ≡ aad ++ byte ∷ [] = take_all (n + 1) (aad ++ byte ∷ []) (omega arith) in
     let none : drop (n + 1) (aad ++ byte ∷ []) ≡ [] = drop_all (n + 1) (aad ++ byte ∷ []) (omega arith) in
     let used : length (aad ++ byte ∷ []) % 16 ≡ 0 = omega arith in
@@ -80,7 +86,8 @@ HasTaken_full nk s t aad byte subkey hash held few size full h absorbed e =
 
 -- one byte more of a piece
 pub fed_more : (aad piece : List ℕ) (i : ℕ) → i < length piece → (aad ++ take i piece) ++ get_or piece i 0 ∷ [] ≡ aad ++ take (i + 1) piece
-fed_more aad piece i h = append_assoc aad (take i piece) (get_or piece i 0 ∷ []) ∙ ap (λ (t : List ℕ). aad ++ t) (sym (take_more piece i 0 h))
+fed_more aad piece i h = append_assoc aad (take i piece) (get_or piece i 0 ∷ [])
+    ∙ ap (λ (t : List ℕ). aad ++ t) (sym (take_more piece i 0 h))
 
 -- the whole blocks and the bytes after them, filled, are the bytes, filled
 filled_rest : (aad rest : List ℕ) → rest ≡ drop (whole_len aad) aad → take (whole_len aad) aad ++ filled rest ≡ filled aad
@@ -91,9 +98,11 @@ filled_rest aad rest e =
 
 -- the hash under the subkey goes on by these bytes, from one number to the next
 abbrev pub GoesOn : ℕ → List ℕ → ℕ → ℕ → Type 0
-GoesOn subkey bytes from to = (before : List ℕ) → Hashes (bits 128 subkey) before from → Hashes (bits 128 subkey) (before ++ filled bytes) to
+GoesOn subkey bytes from to = (before : List ℕ) → Hashes (bits 128 subkey) before from
+    → Hashes (bits 128 subkey) (before ++ filled bytes) to
 
-module _ (nk : ℕ) (s : GcmState) (iv aad ciphertext first lengths block stream tag : List ℕ) (subkey after_aad after_ciphertext after_lengths : ℕ)
+module _ (nk : ℕ) (s : GcmState) (iv aad ciphertext first lengths block stream tag : List ℕ)
+    (subkey after_aad after_ciphertext after_lengths : ℕ)
     (key : bits 128 subkey ≡ hash_subkey (cipher nk s.key)) (a : GoesOn subkey (take (s.fed % 16) s.rest) s.hash after_aad)
     (b : GoesOn subkey ciphertext after_aad after_ciphertext) (c : GoesOn subkey lengths after_ciphertext after_lengths)
     (l : lengths ≡ length_in_bits s.fed ++ length_in_bits (length ciphertext)) (size : length lengths ≡ 16)
@@ -104,21 +113,26 @@ module _ (nk : ℕ) (s : GcmState) (iv aad ciphertext first lengths block stream
       let last : s.fed % 16 ≡ length aad % 16 = ap (λ (m : ℕ). m % 16) held.count in
       let rest : take (s.fed % 16) s.rest ≡ drop (whole_len aad) aad = ap (λ (m : ℕ). take m s.rest) last ∙ held.kept in
       let start : Hashes (bits 128 subkey) (take (whole_len aad) aad) s.hash = rw key held.hashed in
-      let taken : take (whole_len aad) aad ++ filled (take (s.fed % 16) s.rest) ≡ filled aad = filled_rest aad (take (s.fed % 16) s.rest) rest in
+      let taken : take (whole_len aad) aad ++ filled (take (s.fed % 16) s.rest) ≡ filled aad =
+      filled_rest aad (take (s.fed % 16) s.rest) rest in
       let one : Hashes (bits 128 subkey) (filled aad) after_aad = rw taken at (a (take (whole_len aad) aad) start) in
       let spelled : filled lengths ≡ length_in_bits (length aad) ++ length_in_bits (length ciphertext) =
       filled_whole lengths (rw size refl) ∙ l ∙ ap (λ (m : ℕ). length_in_bits m ++ length_in_bits (length ciphertext)) held.count in
-      let all : Hashes (hash_subkey (cipher nk s.key)) (filled aad ++ filled ciphertext ++ (length_in_bits (length aad) ++ length_in_bits (length ciphertext))) after_lengths =
+      let all : Hashes (hash_subkey (cipher nk s.key)) (filled aad ++ filled
+      ciphertext ++ (length_in_bits (length aad) ++ length_in_bits (length ciphertext))) after_lengths =
       rw (key, spelled) at (c (filled aad ++ filled ciphertext) (b (filled aad) one)) in
       t ∙ rw (e, f, n, bytes_of_hash _ _ after_lengths all) refl
 
-  pub tag_from : (v : GcmState) → s ≡ v → HasTaken nk v aad → first ≡ first_block (cipher nk v.key) iv → tag ≡ tag_of (cipher nk v.key) iv aad ciphertext
+  pub tag_from : (v : GcmState) → s ≡ v → HasTaken nk v aad → first ≡ first_block (cipher nk v.key) iv
+      → tag ≡ tag_of (cipher nk v.key) iv aad ciphertext
   tag_from v same =
-      subst (λ (v : GcmState). HasTaken nk v aad → first ≡ first_block (cipher nk v.key) iv → tag ≡ tag_of (cipher nk v.key) iv aad ciphertext) same tag_of_state
+      subst (λ (v : GcmState). HasTaken nk v aad → first ≡ first_block (cipher nk v.key) iv
+      → tag ≡ tag_of (cipher nk v.key) iv aad ciphertext) same tag_of_state
 
 -- what counter mode leaves is the body under the initialisation vector
 pub ciphered_from : (nk : ℕ) (s v : GcmState) (iv first body new : List ℕ) → s ≡ v → first ≡ first_block (cipher nk s.key) iv
     → new ≡ counter_mode (cipher nk s.key) first body → new ≡ ciphered (cipher nk v.key) iv body
 unfolding ciphered
 ciphered_from nk s v iv first body new e f n =
-    n ∙ ap (λ (b : List ℕ). counter_mode (cipher nk s.key) b body) f ∙ ap (λ (v : GcmState). counter_mode (cipher nk v.key) (first_block (cipher nk v.key) iv) body) e
+    n ∙ ap (λ (b : List ℕ). counter_mode (cipher nk s.key) b body) f
+    ∙ ap (λ (v : GcmState). counter_mode (cipher nk v.key) (first_block (cipher nk v.key) iv) body) e

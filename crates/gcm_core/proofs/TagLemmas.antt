@@ -25,7 +25,8 @@ bytes_wrap n =
     let b0 : n % 2 ^ 64 % 256 ≡ n % 256 = omega arith in
     rw (b7, b6, b5, b4, b3, b2, b1, b0) refl
 
-pub lengths_are : (a b : List ℕ) (left right x y : ℕ) → x ≡ left * 8 % 2 ^ 64 → y ≡ right * 8 % 2 ^ 64 → a ≡ to_be_bytes w64 x → b ≡ to_be_bytes w64 y
+pub lengths_are : (a b : List ℕ) (left right x y : ℕ) → x ≡ left * 8 % 2 ^ 64 → y ≡ right * 8 % 2 ^ 64 → a ≡ to_be_bytes w64 x
+    → b ≡ to_be_bytes w64 y
     → put_mid 8 8 (a ++ replicate 8 0) b ≡ length_in_bits left ++ length_in_bits right
 unfolding length_in_bits
 lengths_are a b left right x y g h e f =
@@ -52,7 +53,8 @@ first_block_of_12 e iv h = rw (eq-eqb (length iv) 12 h) (set-append_right iv (0 
 pub bytes_of_hash : (h : List _) (bytes : List ℕ) (number : ℕ) → Hashes h bytes number → to_be_bytes w128 number ≡ block_of (ghash h bytes)
 bytes_of_hash h bytes number held = sym (block_of-bits 16 number) ∙ ap block_of held.hash
 
-pub first_block_of_others : (e : List ℕ → List ℕ) (iv lengths : List ℕ) (number : ℕ) → (length iv ≡ 12 → ⊥) → lengths ≡ length_in_bits 0 ++ length_in_bits (length iv)
+pub first_block_of_others : (e : List ℕ → List ℕ) (iv lengths : List ℕ) (number : ℕ) → (length iv ≡ 12 → ⊥)
+    → lengths ≡ length_in_bits 0 ++ length_in_bits (length iv)
     → length lengths ≡ 16 → Hashes (hash_subkey e) (filled iv ++ filled lengths) number → to_be_bytes w128 number ≡ first_block e iv
 unfolding first_block length_in_bits
 first_block_of_others e iv lengths number h l size held =
@@ -75,7 +77,8 @@ difference_more a b d i h g held =
           let same : x ≡ 0 = omega (arith, le_or_r d x, z) in
           take_more_same a b i 0 h g (held.0 none) (same_from_xor (get_or a i 0) (get_or b i 0) same),
       λ t.
-          let parts = same_from_push (take i a) (take i b) (get_or a i 0) (get_or b i 0) (sym (take_more a i 0 h) ∙ (t ∙ take_more b i 0 g)) in
+          let parts = same_from_push (take i a) (take i b) (get_or a i 0) (get_or b i 0)
+          (sym (take_more a i 0 h) ∙ (t ∙ take_more b i 0 g)) in
           let none : d ≡ 0 = held.1 parts.0 in
           let same : x ≡ 0 = rw parts.1 (xor_self (get_or b i 0)) in
           rw (none, same) refl,

@@ -19,7 +19,7 @@ first_block e iv =
     if length iv == 12 then iv ++ 0 ∷ 0 ∷ 0 ∷ 1 ∷ []
     else block_of (ghash (hash_subkey e) (filled iv ++ (replicate 8 0 ++ length_in_bits (length iv))))
 
--- the body under an initialisation vector, which is its own inverse (7.1, step 3; 7.2, step 5)
+-- the body under an initialisation vector, which is its own inverse (7.1, step 3; 7.2, step 4)
 unfoldable pub ciphered : (List ℕ → List ℕ) → List ℕ → List ℕ → List ℕ
 ciphered e iv body = counter_mode e (first_block e iv) body
 

@@ -1,4 +1,4 @@
--- What a sealer has taken of the additional data.
+-- What a sealer has taken of the additional data (NIST SP 800-38D, section 7.1).
 use Rattle.std.specs.Prelude.{◌≡◌, ℕ, ◌-◌, ◌*◌, ◌/◌, ◌%◌, ◌^◌, ◌≤◌, List, length, take, drop}
 use Rattle.aes_core.specs.Cipher.{cipher}
 use Rattle.gcm_core.specs.Hash.{Hashes}
@@ -15,7 +15,8 @@ pub record GcmState : Type 0 where
 abbrev pub whole_len : List ℕ → ℕ
 whole_len bytes = 16 * (length bytes / 16)
 
--- the state, with an AES key of nk words, has taken exactly these bytes, however they were cut
+-- The state, with an AES key of nk words, has taken exactly these bytes, however they were cut. The standard allows
+-- 2 ^ 64 - 1 bits of them (5.2.1.1).
 pub record HasTaken (nk : ℕ) (state : GcmState) (aad : List ℕ) : Type 0 where
   pub within : length aad ≤ 2 ^ 61 - 1
   pub count : state.fed ≡ length aad

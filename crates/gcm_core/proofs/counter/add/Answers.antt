@@ -5,4 +5,5 @@ use Rattle.gcm_core.proofs.counter.add.Goals as goal
 pub loop-place-preserved : goal.loop-place-preserved
 loop-place-preserved c =
     let i = c.loop-place.place in
-    bytes_sum_more c.args.bytes.now c.args.block.now c.loop-place.bytes i (get_or c.loop-place.bytes i 0) (omega arith) (omega arith) c.loop-place.invariant refl
+    bytes_sum_more c.args.bytes.now c.args.block.now c.loop-place.bytes i (get_or c.loop-place.bytes i 0) (omega arith) (omega arith)
+    c.loop-place.invariant refl

@@ -12,8 +12,10 @@ loop-place-preserved c =
     let twice = c.times_x-sum.result in
     let sum = c.loop-place.sum in
     elim c.if-left-place-eq1.branch [
-      | then-left-place-eq1 w ↦ rw w.sum-is (partial_product_with i c.args.left c.args.right sum twice c.loop-place.invariant c.times_x-sum.ensures w.if-left-place-eq1.true)
-      | else-left-place-eq1 w ↦ rw w.sum-is (partial_product_without i c.args.left c.args.right sum twice c.loop-place.invariant c.times_x-sum.ensures w.if-left-place-eq1.false)
+      | then-left-place-eq1 w ↦ rw w.sum-is (partial_product_with i c.args.left c.args.right sum twice c.loop-place.invariant
+          c.times_x-sum.ensures w.if-left-place-eq1.true)
+      | else-left-place-eq1 w ↦ rw w.sum-is (partial_product_without i c.args.left c.args.right sum twice c.loop-place.invariant
+          c.times_x-sum.ensures w.if-left-place-eq1.false)
     ]
 
 pub returns : goal.returns

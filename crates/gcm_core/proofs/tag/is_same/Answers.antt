@@ -4,4 +4,5 @@ use Rattle.gcm_core.proofs.tag.is_same.Goals as goal
 
 pub loop-place-preserved : goal.loop-place-preserved
 loop-place-preserved c =
-    difference_more c.args.left.now c.args.right.now c.loop-place.difference c.loop-place.place (omega arith) (omega arith) c.loop-place.invariant
+    difference_more c.args.left.now c.args.right.now c.loop-place.difference c.loop-place.place (omega arith) (omega arith)
+    c.loop-place.invariant

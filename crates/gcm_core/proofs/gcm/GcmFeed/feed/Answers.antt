@@ -12,8 +12,10 @@ loop-byte-preserved g c =
     let i = c.loop-byte.byte-index in
     record {
       taken = λ aad held few.
-          let so_far : length (aad ++ take i piece) ≡ length aad + i = omega (arith, length-append aad (take i piece), length-take-le i piece (omega arith)) in
-          rw (fed_more aad piece i c.loop-byte-test.true) at (c.take.ensures.taken (aad ++ take i piece) (c.loop-byte.invariant.taken aad held (omega arith)) (omega arith));
+          let so_far : length (aad ++ take i piece) ≡ length aad + i =
+          omega (arith, length-append aad (take i piece), length-take-le i piece (omega arith)) in
+          rw (fed_more aad piece i c.loop-byte-test.true) at (c.take.ensures.taken (aad ++ take i piece)
+          (c.loop-byte.invariant.taken aad held (omega arith)) (omega arith));
       key = c.take.ensures.key ∙ c.loop-byte.invariant.key;
     }
 
