@@ -14,7 +14,7 @@ unfolding bits
 length-bits zero n = refl
 length-bits (suc k) n = ap suc (length-bits k n)
 
-bits_zero : (k : ℕ) → bits k 0 ≡ replicate k false
+pub bits_zero : (k : ℕ) → bits k 0 ≡ replicate k false
 unfolding bits
 bits_zero zero = refl
 bits_zero (suc k) = rw (zero-div (2 ^ k), bits_zero k) refl

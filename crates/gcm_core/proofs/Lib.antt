@@ -1,3 +1,4 @@
+pub mod PowerLemmas
 pub mod SizeLemmas
 pub mod LawLemmas
 pub mod StateLemmas

@@ -126,7 +126,7 @@ reduced-sum low p q =
     (sum_swap (take (length low) p) (take (length low) q) (polynomial_scaled (coefficient p (length low)) low)
     (polynomial_scaled (coefficient q (length low)) low))
 
-remainder-sum : (low p q : List Bool) → remainder low (polynomial_sum p q) ≡ polynomial_sum (remainder low p) (remainder low q)
+pub remainder-sum : (low p q : List Bool) → remainder low (polynomial_sum p q) ≡ polynomial_sum (remainder low p) (remainder low q)
 unfolding remainder
 remainder-sum low [] q = sym (zeros_sum (remainder low q) (length low) (length-remainder low q))
 remainder-sum low (a ∷ p) [] = sym (sum_zeros (remainder low (a ∷ p)) (length low) (length-remainder low (a ∷ p)))
@@ -171,3 +171,18 @@ remainder_product low a p q h =
     remainder-sum low (polynomial_scaled a q) (false ∷ polynomial_product p q)
     ∙ ap (λ (t : List Bool). polynomial_sum t (reduced low (false ∷ remainder low (polynomial_product p q))))
     (remainder_same low (polynomial_scaled a q) (length-scaled a q ∙ h))
+
+-- ---- a product is additive in its first factor
+
+pub product-sum : (p q m : List Bool)
+    → polynomial_product (polynomial_sum p q) m ≡ polynomial_sum (polynomial_product p m) (polynomial_product q m)
+product-sum [] q m = refl
+product-sum (a ∷ p) [] m = sym (sum_nil (polynomial_product (a ∷ p) m))
+product-sum (a ∷ p) (b ∷ q) m =
+    rw (scaled-xor a b m, product-sum p q m)
+    (sum_swap (polynomial_scaled a m) (polynomial_scaled b m) (false ∷ polynomial_product p m) (false ∷ polynomial_product q m))
+
+-- twice a polynomial is zero
+pub sum_self : (p : List Bool) → polynomial_sum p p ≡ replicate (length p) false
+sum_self [] = refl
+sum_self (a ∷ p) = rw (xor_same a, sum_self p) refl

@@ -3,7 +3,7 @@ use Rattle.std.proofs.Common.{◌≡◌, ℕ, zero, suc, ◌<◌, ◌≤◌, ◌
 use Rattle.std.proofs.lemmas.List.{get_or_past, get_or_append_left, get_or_at, ext_get_or, length_push}
 use Rattle.std.proofs.lemmas.Bool.{cases_order}
 use Rattle.gcm_core.specs.Polynomial.{coefficient, coefficient_sum, polynomial_sum, polynomial_scaled, polynomial_product, modulus, reduced, remainder, IsRemainder}
-use Rattle.gcm_core.proofs.PolynomialLemmas.{xor_zero, and-xor, xor_comm, xor_assoc, coefficient-sum, length-remainder}
+use Rattle.gcm_core.proofs.PolynomialLemmas.{xor_zero, coefficient-sum, length-remainder, product-sum}
 
 coefficient-scaled : (a : Bool) (q : List Bool) (i : ℕ) → coefficient (polynomial_scaled a q) i ≡ (a && coefficient q i)
 coefficient-scaled true [] i = refl
@@ -121,18 +121,6 @@ moved_zeros : (m : List Bool) → ((k : ℕ) → coefficient m k ≡ false) → 
 moved_zeros m h zero = refl
 moved_zeros m h (suc k) = h k
 
-moved_sum : (m a b : List Bool) → ((k : ℕ) → coefficient m k ≡ coefficient_sum (coefficient a k) (coefficient b k))
-    → (k : ℕ) → coefficient (false ∷ m) k ≡ coefficient_sum (coefficient (false ∷ a) k) (coefficient (false ∷ b) k)
-moved_sum m a b h zero = refl
-moved_sum m a b h (suc k) = h k
-
-xor_swap : (a b x y : Bool)
-    → coefficient_sum (coefficient_sum a b) (coefficient_sum x y) ≡ coefficient_sum (coefficient_sum a x) (coefficient_sum b y)
-xor_swap a b x y =
-    xor_assoc a b (coefficient_sum x y)
-    ∙ ap (coefficient_sum a) (sym (xor_assoc b x y) ∙ ap (λ (t : Bool). coefficient_sum t y) (xor_comm b x) ∙ xor_assoc x b y)
-    ∙ sym (xor_assoc a x (coefficient_sum b y))
-
 same_from_sum : (a b : Bool) → coefficient_sum a b ≡ false → a ≡ b
 same_from_sum true true h = refl
 same_from_sum false false h = refl
@@ -157,25 +145,10 @@ no_multiple low (a ∷ q) h i =
     let off : a ≡ false = sym (xor_zero a) ∙ (rw (modulus_top low, moved d, and_on a) at top) in
     coefficient_product a q (modulus low) i ∙ rw (off, moved i) refl
 
--- a product is additive in its first factor
 coefficient_product-sum : (p q m : List Bool) (i : ℕ) → coefficient (polynomial_product (polynomial_sum p q) m) i
     ≡ coefficient_sum (coefficient (polynomial_product p m) i) (coefficient (polynomial_product q m) i)
-coefficient_product-sum [] q m i = refl
-coefficient_product-sum (a ∷ p) [] m i = sym (xor_zero (coefficient (polynomial_product (a ∷ p) m) i))
-coefficient_product-sum (a ∷ p) (b ∷ q) m i =
-    let am : Bool = a && coefficient m i in
-    let bm : Bool = b && coefficient m i in
-    let pm : List Bool = polynomial_product p m in
-    let qm : List Bool = polynomial_product q m in
-    let both : coefficient (false ∷ polynomial_product (polynomial_sum p q) m) i
-    ≡ coefficient_sum (coefficient (false ∷ pm) i) (coefficient (false ∷ qm) i) =
-    moved_sum (polynomial_product (polynomial_sum p q) m) pm qm (coefficient_product-sum p q m) i in
-    let left : coefficient (polynomial_product (polynomial_sum (a ∷ p) (b ∷ q)) m) i
-    ≡ coefficient_sum (coefficient_sum am bm) (coefficient_sum (coefficient (false ∷ pm) i) (coefficient (false ∷ qm) i)) =
-    coefficient_product (coefficient_sum a b) (polynomial_sum p q) m i ∙ rw (and-xor a b (coefficient m i), both) refl in
-    left
-    ∙ rw (coefficient_product a p m i, coefficient_product b q m i)
-    (xor_swap am bm (coefficient (false ∷ pm) i) (coefficient (false ∷ qm) i))
+coefficient_product-sum p q m i =
+    ap (λ (t : List Bool). coefficient t i) (product-sum p q m) ∙ coefficient-sum (polynomial_product p m) (polynomial_product q m) i
 
 same_sums : (a b x y : Bool) → coefficient_sum a x ≡ coefficient_sum b y → coefficient_sum a b ≡ coefficient_sum x y
 same_sums true true true true h = refl

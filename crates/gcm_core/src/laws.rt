@@ -1,8 +1,9 @@
 //! Laws of the definitions, over every block cipher `e`: the code below does nothing, and its contracts are the laws.
 
-ghost use Rattle.std.specs.Prelude.{◌≡◌, ◌<◌, ◌↔◌, ℕ, Bool, List, All, length};
+ghost use Rattle.std.specs.Prelude.{◌≡◌, ◌/◌, ◌<◌, ◌↔◌, ℕ, Bool, List, All, length};
 ghost use Rattle.gcm_core.specs.Polynomial.{remainder, IsRemainder};
 ghost use Rattle.gcm_core.specs.Block.{polynomial_of, block_of};
+ghost use Rattle.gcm_core.specs.Hash.{ghash, power_sum};
 ghost use Rattle.gcm_core.specs.Gcm.{GivesBlocks, Seals, ciphered, tag_of};
 
 /// Enciphering twice under one initialisation vector gives the body back.
@@ -48,4 +49,11 @@ pub fn remainder_differs_by_a_multiple()
 #[tactic(auto, using(crate::proofs::BlockLemmas::block_of_polynomial))]
 pub fn polynomial_has_the_bits()
     ensures { (block : List ℕ) → All (λ byte. byte < 256) block → block_of (polynomial_of block) ≡ block }
+{}
+
+/// GHASH of m blocks is X1 h^m + X2 h^(m-1) + .. + Xm h, under the subkey h (SP 800-38D, section 6.4).
+#[tactic(auto, using(crate::proofs::PowerLemmas::ghash_is_power_sum))]
+pub fn hash_is_a_polynomial_in_the_subkey()
+    ensures { (h : List Bool) → (bytes : List ℕ)
+        → ghash h bytes ≡ power_sum h bytes (length bytes / 16) (length bytes / 16) }
 {}
