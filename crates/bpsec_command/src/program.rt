@@ -59,11 +59,13 @@ pub fn run<S: Source, K: Shelf, W: Sink, R: Sink>(
     ensures unread { IsUsage result → S.left input.new ≡ S.left input.old }
     ensures files { K.files shelf.new ≡ K.files shelf.old }
 
-    // No count rises where no fault is told, and none is told where nothing fails and all that is due is taken.
-    ensures quiet_input { HasNoFault result → S.faults input.new ≡ S.faults input.old }
+    // A count rises only where its fault is told: the input's also where the line that tells it is broken off.
+    ensures quiet_input { (result ≡ ReadFault Input → ⊥) → (result ≡ WriteFault Report → ⊥) → S.faults input.new ≡ S.faults input.old }
     ensures quiet_shelf { K.failed shelf.new ≡ K.failed shelf.old }
-    ensures quiet_out { HasNoFault result → W.faults out.new ≡ W.faults out.old }
-    ensures quiet_report { HasNoFault result → R.faults report.new ≡ R.faults report.old }
+    ensures quiet_out { (result ≡ WriteFault Out → ⊥) → W.faults out.new ≡ W.faults out.old }
+    ensures quiet_report { (result ≡ WriteFault Report → ⊥) → R.faults report.new ≡ R.faults report.old }
+
+    // No fault is told where nothing fails and all that is due is taken.
     ensures complete { S.steady input.old → K.steady shelf.old
         → ((answer : Answer) → IsAnswer (record { words = map string_bytes words.now; input = S.left input.old }) answer
         → Takes (W.takes out.old) answer.out × Takes (R.takes report.old) answer.report)
