@@ -57,6 +57,7 @@ pub fn run<S: Source, K: Shelf, W: Sink, R: Sink>(
     // What is left of the input, and of the files.
     ensures ended { result ≡ Done → IfSome (S.left input.new) (λ rest. rest ≡ []) }
     ensures unread { IsUsage result → S.left input.new ≡ S.left input.old }
+    ensures unread_words { (ReadsInput (map string_bytes words.now) → ⊥) → input.new ≡ input.old }
     ensures files { K.files shelf.new ≡ K.files shelf.old }
 
     // A count rises only where its fault is told: the input's also where the line that tells it is broken off.

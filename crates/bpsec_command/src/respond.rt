@@ -34,6 +34,7 @@ pub fn respond<S: Source>(
     ensures answer { IfOk result (IsAnswer (record { words = map string_bytes words.now; input = S.left input.old })) }
     ensures ended { IfOk result (λ answer. answer.status ≡ Done → IfSome (S.left input.new) (λ rest. rest ≡ [])) }
     ensures unread { IfOk result (λ answer. IsUsage answer.status → S.left input.new ≡ S.left input.old) }
+    ensures unread_words { (ReadsInput (map string_bytes words.now) → ⊥) → input.new ≡ input.old }
     ensures quiet { (IsErrOf result Hindrance.Input → ⊥) → S.faults input.new ≡ S.faults input.old }
     ensures fault { IsErrOf result Hindrance.Input → Rose (S.faults input.old) (S.faults input.new) }
     ensures reading { IsErrOf result Hindrance.Input → ReadsInput (map string_bytes words.now) }
