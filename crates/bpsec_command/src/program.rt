@@ -1,8 +1,10 @@
 //! The top call.
 
-ghost use Rattle.std.specs.Prelude.{◌≡◌, [], map, string_bytes, IfSome};
+ghost use Rattle.std.specs.Prelude.{◌≡◌, ◌+◌, [], map, string_bytes, IfSome};
 ghost use Rattle.bp_outside.specs.Outside.{Rose};
 ghost use Rattle.bpsec_command.specs.Words.{ReadsInput};
+ghost use Rattle.bpsec_command.specs.Reading.{TakesAtMost};
+ghost use Rattle.cbor_profile.specs.declared.TheConstants.{BUNDLE_LIMIT};
 ghost use Rattle.bpsec_command.specs.Answer.{IsAnswer, Given, input_fault, memory_fault};
 ghost use Rattle.bpsec_command.specs.Delivery.{IsDelivered, BreaksOffOut, BreaksOffReport, IsDue, IsAnswered, IsUsage, HasNoFault, Takes, Written};
 ghost use Rattle.bpsec_command.specs.declared.answer.Answer.{Answer};
@@ -58,6 +60,7 @@ pub fn run<S: Source, K: Shelf, W: Sink, R: Sink>(
     ensures ended { result ≡ Done → IfSome (S.left input.new) (λ rest. rest ≡ []) }
     ensures unread { IsUsage result → S.left input.new ≡ S.left input.old }
     ensures unread_words { (ReadsInput (map string_bytes words.now) → ⊥) → input.new ≡ input.old }
+    ensures at_most { TakesAtMost (BUNDLE_LIMIT + 1) (S.left input.old) (S.left input.new) }
     ensures files { K.files shelf.new ≡ K.files shelf.old }
 
     // A count rises only where its fault is told: the input's also where the line that tells it is broken off.
