@@ -1,10 +1,16 @@
 //! Laws over the definitions of this crate. Each is the contract of a function that does nothing.
 
-ghost use Rattle.std.specs.Prelude.{◌≡◌, ◌<◌, ◌≤◌, ◌++◌, ℕ, List, length, take, slice_index};
+ghost use Rattle.std.specs.Prelude.{◌≡◌, ◌<◌, ◌≤◌, ◌^◌, ◌++◌, ℕ, List, length, take, slice_index};
 ghost use Rattle.cbor_profile.specs.Head.{spelling, IsHead, read_head};
 ghost use Rattle.cbor_profile.specs.Item.{IsItem, most_levels};
 ghost use Rattle.cbor_profile.specs.declared.head.Head.{Head};
 ghost use Rattle.cbor_profile.specs.declared.head.HeadRead.TheVariants.{Whole};
+ghost use Rattle.cbor_profile.specs.declared.TheConstants.{BUNDLE_LIMIT};
+
+/// The spelling of a bundle has at most 16 MiB.
+pub fn the_bundle_limit_is_16_mib()
+    ensures { BUNDLE_LIMIT ≡ 2 ^ 24 }
+{}
 
 /// A spelling determines its head, and no spelling is a proper prefix of another.
 pub fn heads_have_one_spelling()
