@@ -4,7 +4,7 @@ ghost use Rattle.std.specs.Prelude.{◌≡◌, ◌<◌, ◌≤◌, ◌^◌, ◌+
 ghost use Rattle.cbor_profile.specs.Head.{spelling, IsHead, read_head};
 ghost use Rattle.cbor_profile.specs.Item.{IsItem, most_levels};
 ghost use Rattle.cbor_profile.specs.declared.head.Head.{Head};
-ghost use Rattle.cbor_profile.specs.declared.head.HeadRead.TheVariants.{Whole};
+ghost use Rattle.cbor_profile.specs.declared.head.HeadRead.TheVariants.{Whole, Short};
 ghost use Rattle.cbor_profile.specs.declared.TheConstants.{BUNDLE_LIMIT};
 
 /// The spelling of a bundle has at most 16 MiB.
@@ -28,4 +28,9 @@ pub fn heads_are_read_as_spelled()
     ensures again { (head : Head) (rest : List ℕ) → IsHead head → read_head (spelling head ++ rest) ≡ Whole head (length (spelling head)) }
     ensures means { (bytes : List ℕ) (head : Head) (len : ℕ) → ((i : ℕ) → slice_index bytes i < 256) → read_head bytes ≡ Whole head len
         → (len ≤ length bytes) × (take len bytes ≡ spelling head) × IsHead head }
+{}
+
+/// Each answer about the head at the front stands, whatever bytes follow; only want of bytes may change.
+pub fn heads_are_judged_from_the_left()
+    ensures { (bytes more : List ℕ) → (read_head bytes ≡ Short → ⊥) → read_head (bytes ++ more) ≡ read_head bytes }
 {}
