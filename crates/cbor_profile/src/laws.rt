@@ -1,10 +1,10 @@
 //! Laws over the definitions of this crate. Each is the contract of a function that does nothing.
 
-ghost use Rattle.std.specs.Prelude.{◌≡◌, ◌<◌, ◌≤◌, ◌^◌, ◌++◌, ℕ, List, length, take, slice_index};
+ghost use Rattle.std.specs.Prelude.{◌≡◌, ◌<◌, ◌≤◌, ◌^◌, ◌∷◌, ◌++◌, ◌↔◌, ℕ, List, length, take, slice_index};
 ghost use Rattle.cbor_profile.specs.Head.{spelling, IsHead, read_head};
 ghost use Rattle.cbor_profile.specs.Item.{IsItem, most_levels};
 ghost use Rattle.cbor_profile.specs.declared.head.Head.{Head};
-ghost use Rattle.cbor_profile.specs.declared.head.HeadRead.TheVariants.{Whole, Short};
+ghost use Rattle.cbor_profile.specs.declared.head.HeadRead.TheVariants.{Whole, Short, Bad};
 ghost use Rattle.cbor_profile.specs.declared.TheConstants.{BUNDLE_LIMIT};
 
 /// The spelling of a bundle has at most 16 MiB.
@@ -33,4 +33,10 @@ pub fn heads_are_read_as_spelled()
 /// Each answer about the head at the front stands, whatever bytes follow; only want of bytes may change.
 pub fn heads_are_judged_from_the_left()
     ensures { (bytes more : List ℕ) → (read_head bytes ≡ Short → ⊥) → read_head (bytes ++ more) ≡ read_head bytes }
+{}
+
+/// A head is bad exactly where no spelling begins with its first byte.
+pub fn heads_are_bad_at_their_first_byte()
+    ensures { (first : ℕ) (rest : List ℕ) → first < 256
+        → (read_head (first ∷ rest) ≡ Bad) ↔ ((head : Head) (others : List ℕ) → IsHead head → spelling head ≡ first ∷ others → ⊥) }
 {}
