@@ -1,6 +1,6 @@
 //! What bytes are written to.
 
-ghost use Rattle.std.specs.Prelude.{◌≡◌, ℕ, ◌-◌, ◌<◌, ◌≤◌, List, length, take, Option, IfOk, OnOk, OnErr, IsOk, IsOkAnd};
+ghost use Rattle.std.specs.Prelude.{◌≡◌, ℕ, ◌-◌, ◌<◌, ◌≤◌, List, [], length, take, Option, IfOk, OnOk, OnErr, IsOk, IsOkAnd};
 ghost use Rattle.bp_outside.specs.Outside.{Rose, Appended};
 
 use crate::fault::Failed;
@@ -36,6 +36,7 @@ pub fn write_all<W: Sink>(out: &mut W, piece: &[u8]) -> Result<(), Failed>
     ensures ok { OnOk result (Appended (W.written out.old) piece.now (W.written out.new)) }
     ensures prefix { OnErr result ((n : ℕ) × (n < length piece.now)
         × Appended (W.written out.old) (take n piece.now) (W.written out.new)) }
+    ensures nothing { piece.now ≡ [] → out.new ≡ out.old }
 
     ensures quiet { OnOk result (W.faults out.new ≡ W.faults out.old) }
     ensures failed { OnErr result (Rose (W.faults out.old) (W.faults out.new)) }

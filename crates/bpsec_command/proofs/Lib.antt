@@ -1,3 +1,4 @@
 mod FirstForm
 mod Responses
 mod Statuses
+mod Taking

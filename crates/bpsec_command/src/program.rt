@@ -1,8 +1,10 @@
 //! The top call.
 
-ghost use Rattle.std.specs.Prelude.{◌≡◌, [], map, string_bytes, IfSome};
+ghost use Rattle.std.specs.Prelude.{◌≡◌, ◌+◌, [], map, string_bytes, IfSome};
 ghost use Rattle.bp_outside.specs.Outside.{Rose};
 ghost use Rattle.bpsec_command.specs.Words.{ReadsInput};
+ghost use Rattle.bpsec_command.specs.Reading.{TakesAtMost};
+ghost use Rattle.cbor_profile.specs.declared.TheConstants.{BUNDLE_LIMIT};
 ghost use Rattle.bpsec_command.specs.Answer.{IsAnswer, Given, input_fault, memory_fault};
 ghost use Rattle.bpsec_command.specs.Delivery.{IsDelivered, BreaksOffOut, BreaksOffReport, IsDue, IsAnswered, IsUsage, HasNoFault, Takes, Written};
 ghost use Rattle.bpsec_command.specs.declared.answer.Answer.{Answer};
@@ -57,13 +59,17 @@ pub fn run<S: Source, K: Shelf, W: Sink, R: Sink>(
     // What is left of the input, and of the files.
     ensures ended { result ≡ Done → IfSome (S.left input.new) (λ rest. rest ≡ []) }
     ensures unread { IsUsage result → S.left input.new ≡ S.left input.old }
+    ensures unread_words { (ReadsInput (map string_bytes words.now) → ⊥) → input.new ≡ input.old }
+    ensures at_most { TakesAtMost (BUNDLE_LIMIT + 1) (S.left input.old) (S.left input.new) }
     ensures files { K.files shelf.new ≡ K.files shelf.old }
 
-    // No count rises where no fault is told, and none is told where nothing fails and all that is due is taken.
-    ensures quiet_input { HasNoFault result → S.faults input.new ≡ S.faults input.old }
+    // A count rises only where its fault is told: the input's also where the line that tells it is broken off.
+    ensures quiet_input { (result ≡ ReadFault Input → ⊥) → (result ≡ WriteFault Report → ⊥) → S.faults input.new ≡ S.faults input.old }
     ensures quiet_shelf { K.failed shelf.new ≡ K.failed shelf.old }
-    ensures quiet_out { HasNoFault result → W.faults out.new ≡ W.faults out.old }
-    ensures quiet_report { HasNoFault result → R.faults report.new ≡ R.faults report.old }
+    ensures quiet_out { (result ≡ WriteFault Out → ⊥) → W.faults out.new ≡ W.faults out.old }
+    ensures quiet_report { (result ≡ WriteFault Report → ⊥) → R.faults report.new ≡ R.faults report.old }
+
+    // No fault is told where nothing fails and all that is due is taken.
     ensures complete { S.steady input.old → K.steady shelf.old
         → ((answer : Answer) → IsAnswer (record { words = map string_bytes words.now; input = S.left input.old }) answer
         → Takes (W.takes out.old) answer.out × Takes (R.takes report.old) answer.report)

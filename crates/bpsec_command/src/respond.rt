@@ -1,8 +1,10 @@
 //! From the words and the input to the answer, all of it made in memory.
 
-ghost use Rattle.std.specs.Prelude.{◌≡◌, [], map, string_bytes, IfOk, IfSome, IsErrOf};
+ghost use Rattle.std.specs.Prelude.{◌≡◌, ◌+◌, [], map, string_bytes, IfOk, IfSome, IsErrOf};
 ghost use Rattle.bp_outside.specs.Outside.{Rose};
 ghost use Rattle.bpsec_command.specs.Answer.{IsAnswer, Given, usage};
+ghost use Rattle.bpsec_command.specs.Reading.{TakesAtMost};
+ghost use Rattle.cbor_profile.specs.declared.TheConstants.{BUNDLE_LIMIT};
 ghost use Rattle.bpsec_command.specs.Words.{ReadsInput};
 ghost use Rattle.bpsec_command.specs.Delivery.{IsUsage};
 ghost use Rattle.bpsec_command.specs.declared.answer.Hindrance.{Hindrance};
@@ -26,6 +28,7 @@ fn usage(alloc: Global, word: u64) -> Result<Answer, NoMemory>
 }
 
 /// Reads the words, then the input, and does the job.
+#[tactic(auto, using(crate::proofs::Taking::takes_none))]
 pub fn respond<S: Source>(
     alloc: Global,
     words: &[String],
@@ -34,6 +37,8 @@ pub fn respond<S: Source>(
     ensures answer { IfOk result (IsAnswer (record { words = map string_bytes words.now; input = S.left input.old })) }
     ensures ended { IfOk result (λ answer. answer.status ≡ Done → IfSome (S.left input.new) (λ rest. rest ≡ [])) }
     ensures unread { IfOk result (λ answer. IsUsage answer.status → S.left input.new ≡ S.left input.old) }
+    ensures unread_words { (ReadsInput (map string_bytes words.now) → ⊥) → input.new ≡ input.old }
+    ensures at_most { TakesAtMost (BUNDLE_LIMIT + 1) (S.left input.old) (S.left input.new) }
     ensures quiet { (IsErrOf result Hindrance.Input → ⊥) → S.faults input.new ≡ S.faults input.old }
     ensures fault { IsErrOf result Hindrance.Input → Rose (S.faults input.old) (S.faults input.new) }
     ensures reading { IsErrOf result Hindrance.Input → ReadsInput (map string_bytes words.now) }

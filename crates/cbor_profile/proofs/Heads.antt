@@ -148,7 +148,7 @@ passed : (b : Bool) (x y z : HeadRead) → cond b x y ≡ z → (x ≡ z → ⊥
 passed true x y z e differs = absurd (differs e)
 passed false x y z e differs = (refl, e)
 
-not_bad : (major low : ℕ) → major < 8 → ((major == 6) || (nat_le 28 low || ((major == 7) && nat_le 24 low))) ≡ false → (low < 28) × ((major < 6) ⊎ ((major ≡ 7) × (low < 24)))
+pub not_bad : (major low : ℕ) → major < 8 → ((major == 6) || (nat_le 28 low || ((major == 7) && nat_le 24 low))) ≡ false → (low < 28) × ((major < 6) ⊎ ((major ≡ 7) × (low < 24)))
 not_bad major low lt fine =
     let a = or_parts (major == 6) (nat_le 28 low || ((major == 7) && nat_le 24 low)) fine in
     let b = or_parts (nat_le 28 low) ((major == 7) && nat_le 24 low) a.1 in

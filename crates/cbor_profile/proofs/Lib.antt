@@ -1,4 +1,5 @@
 pub mod Wide
 pub mod Heads
+mod HeadFaults
 pub mod Items
 pub mod ItemGrammar

@@ -1,6 +1,6 @@
 //! What takes bytes piece by piece, and stands for all of them together.
 
-ghost use Rattle.std.specs.Prelude.{◌≡◌, ◌+◌, ◌-◌, ◌≤◌, ◌^◌, ◌++◌, ℕ, [], List, length, IfOk, IsErr, IsTrue, ◌↔◌};
+ghost use Rattle.std.specs.Prelude.{◌≡◌, ◌+◌, ◌-◌, ◌≤◌, ◌^◌, ◌++◌, ℕ, [], List, length, IfOk, IsErr, IsTrue, IsFalse, ◌↔◌};
 ghost use Rattle.cbor_profile.specs.Gathered.{Gathered, Gathers};
 ghost use Rattle.std.proofs.Common.{rules};
 
@@ -52,7 +52,8 @@ impl Model for Gather {
 impl Gather {
     /// Nothing fed yet. Takes no memory.
     pub fn new(alloc: Global) -> Gather
-        ensures { Gathers result [] }
+        ensures empty { Gathers result [] }
+        ensures nothing_lost { IsFalse result.lost }
     {
         Gather {
             kept: Bytes::new(alloc),

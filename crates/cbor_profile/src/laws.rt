@@ -1,10 +1,16 @@
 //! Laws over the definitions of this crate. Each is the contract of a function that does nothing.
 
-ghost use Rattle.std.specs.Prelude.{◌≡◌, ◌<◌, ◌≤◌, ◌++◌, ℕ, List, length, take, slice_index};
+ghost use Rattle.std.specs.Prelude.{◌≡◌, ◌<◌, ◌≤◌, ◌^◌, ◌∷◌, ◌++◌, ◌↔◌, ℕ, List, length, take, slice_index};
 ghost use Rattle.cbor_profile.specs.Head.{spelling, IsHead, read_head};
 ghost use Rattle.cbor_profile.specs.Item.{IsItem, most_levels};
 ghost use Rattle.cbor_profile.specs.declared.head.Head.{Head};
-ghost use Rattle.cbor_profile.specs.declared.head.HeadRead.TheVariants.{Whole};
+ghost use Rattle.cbor_profile.specs.declared.head.HeadRead.TheVariants.{Whole, Short, Bad};
+ghost use Rattle.cbor_profile.specs.declared.TheConstants.{BUNDLE_LIMIT};
+
+/// The spelling of a bundle has at most 16 MiB.
+pub fn the_bundle_limit_is_16_mib()
+    ensures { BUNDLE_LIMIT ≡ 2 ^ 24 }
+{}
 
 /// A spelling determines its head, and no spelling is a proper prefix of another.
 pub fn heads_have_one_spelling()
@@ -22,4 +28,15 @@ pub fn heads_are_read_as_spelled()
     ensures again { (head : Head) (rest : List ℕ) → IsHead head → read_head (spelling head ++ rest) ≡ Whole head (length (spelling head)) }
     ensures means { (bytes : List ℕ) (head : Head) (len : ℕ) → ((i : ℕ) → slice_index bytes i < 256) → read_head bytes ≡ Whole head len
         → (len ≤ length bytes) × (take len bytes ≡ spelling head) × IsHead head }
+{}
+
+/// Each answer about the head at the front stands, whatever bytes follow; only want of bytes may change.
+pub fn heads_are_judged_from_the_left()
+    ensures { (bytes more : List ℕ) → (read_head bytes ≡ Short → ⊥) → read_head (bytes ++ more) ≡ read_head bytes }
+{}
+
+/// A head is bad exactly where no spelling begins with its first byte.
+pub fn heads_are_bad_at_their_first_byte()
+    ensures { (first : ℕ) (rest : List ℕ) → first < 256
+        → (read_head (first ∷ rest) ≡ Bad) ↔ ((head : Head) (others : List ℕ) → IsHead head → spelling head ≡ first ∷ others → ⊥) }
 {}
