@@ -57,3 +57,12 @@ pub answers : (words : List (List ℕ)) (input : Option (List ℕ)) (command : C
     → IsAnswer (record { words = words; input = input }) answer
 answers words input command answer e h =
     subst (λ (r : Result Command ℕ). MatchResult r (λ one. OnInput input (λ bytes. IsJobAnswer one bytes answer)) (λ word. answer ≡ usage word)) (sym e) h
+
+check_no_output : (bytes : List ℕ) (answer : Answer) → IsCheckAnswer bytes answer → (answer.status ≡ Done → ⊥) → answer.out ≡ []
+unfolding IsCheckAnswer
+check_no_output bytes answer (inl h) refused = absurd (refused (ap (λ (a : Answer). a.status) h.1))
+check_no_output bytes answer (inr h) refused = ap (λ (a : Answer). a.out) h.1
+
+-- what isn't done has no output
+pub no_output : (command : Command) (bytes : List ℕ) (answer : Answer) → IsJobAnswer command bytes answer → (answer.status ≡ Done → ⊥) → answer.out ≡ []
+no_output Check bytes answer h refused = check_no_output bytes answer h refused

@@ -1,6 +1,6 @@
 //! The last step: the answer is written, the output whole before the report. Here alone are write faults.
 
-ghost use Rattle.std.specs.Prelude.{◌≡◌};
+ghost use Rattle.std.specs.Prelude.{◌≡◌, []};
 ghost use Rattle.bp_outside.specs.Outside.{Rose};
 ghost use Rattle.bpsec_command.specs.Delivery.{IsDelivered, BreaksOffOut, BreaksOffReport, IsWriteFault, Takes, Written};
 ghost use Rattle.bpsec_command.specs.declared.status.Status.TheVariants.{WriteFault};
@@ -26,6 +26,7 @@ pub fn deliver<W: Sink, R: Sink>(
         (record { out_before = W.written out.old; out_now = W.written out.new; report_before = R.written report.old; report_now = R.written report.new }) }
     ensures out_fault { result ≡ WriteFault Out → Rose (W.faults out.old) (W.faults out.new) }
     ensures report_fault { result ≡ WriteFault Report → Rose (R.faults report.old) (R.faults report.new) }
+    ensures untouched_out { out_due.now ≡ [] → out.new ≡ out.old }
     ensures quiet_out { (result ≡ WriteFault Out → ⊥) → W.faults out.new ≡ W.faults out.old }
     ensures quiet_report { (result ≡ WriteFault Report → ⊥) → R.faults report.new ≡ R.faults report.old }
     ensures takes_on { Takes (W.takes out.old) out_due.now → Takes (R.takes report.old) report_due.now → result ≡ status }

@@ -53,6 +53,9 @@ pub fn run<S: Source, K: Shelf, W: Sink, R: Sink>(
         × IsDue (record { words = map string_bytes words.now; input = S.left input.old }) (Rose (S.faults input.old) (S.faults input.new)) answer
         × BreaksOffReport answer (record { out_before = W.written out.old; out_now = W.written out.new; report_before = R.written report.old; report_now = R.written report.new }) }
 
+    // Only what is done writes to the output.
+    ensures untouched_out { (result ≡ Done → ⊥) → (result ≡ WriteFault Out → ⊥) → (result ≡ WriteFault Report → ⊥) → out.new ≡ out.old }
+
     ensures no_memory { result ≡ NoMemory
         → IsDelivered memory_fault result (record { out_before = W.written out.old; out_now = W.written out.new; report_before = R.written report.old; report_now = R.written report.new }) }
 

@@ -35,6 +35,7 @@ pub fn respond<S: Source>(
     input: &mut S,
 ) -> Result<Answer, Hindrance>
     ensures answer { IfOk result (IsAnswer (record { words = map string_bytes words.now; input = S.left input.old })) }
+    ensures no_output { IfOk result (λ answer. (answer.status ≡ Done → ⊥) → answer.out ≡ []) }
     ensures ended { IfOk result (λ answer. answer.status ≡ Done → IfSome (S.left input.new) (λ rest. rest ≡ [])) }
     ensures unread { IfOk result (λ answer. IsUsage answer.status → S.left input.new ≡ S.left input.old) }
     ensures unread_words { (ReadsInput (map string_bytes words.now) → ⊥) → input.new ≡ input.old }

@@ -1,6 +1,6 @@
 use Rattle.std.proofs.Common.{ℕ, List, map, string_bytes, subst, sym}
 use Rattle.bpsec_command.specs.Answer.{IsJobAnswer}
-use Rattle.bpsec_command.proofs.Responses.{answers, on_input, done_whole, no_usage}
+use Rattle.bpsec_command.proofs.Responses.{answers, on_input, done_whole, no_usage, no_output}
 use Rattle.bpsec_command.proofs.respond.respond.Goals as goal
 
 pub returns-clause-answer : goal.returns-clause-answer
@@ -22,3 +22,9 @@ returns-clause-unread g c =
     let command = c.in-Ok.command in
     let answer = c.in_ok-do_job.field-0 in
     λ usage. absurd (no_usage command c.as_slice.result.now answer c.in_ok-do_job.ensures usage)
+
+pub returns-clause-no_output : goal.returns-clause-no_output
+returns-clause-no_output g c =
+    let command = c.in-Ok.command in
+    let answer = c.in_ok-do_job.field-0 in
+    λ refused. no_output command c.as_slice.result.now answer c.in_ok-do_job.ensures refused
