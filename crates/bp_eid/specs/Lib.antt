@@ -1,0 +1,3 @@
+pub mod DtnText
+pub mod EndpointId
+pub mod Reading

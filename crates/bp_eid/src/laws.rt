@@ -1,0 +1,24 @@
+//! Laws over the definitions of this crate. Each is the contract of a function that does nothing.
+
+ghost use Rattle.std.specs.Prelude.{◌≡◌, ◌<◌, ◌++◌, ℕ, List, Ok, slice_index};
+ghost use Rattle.bp_eid.specs.EndpointId.{spelling, text_form, Fits};
+ghost use Rattle.bp_eid.specs.Reading.{id_at};
+ghost use Rattle.bp_eid.specs.declared.eid.Eid.{Eid};
+
+/// A spelling determines its id, and no spelling is a proper prefix of another.
+pub fn ids_have_one_spelling()
+    ensures { (a b : Eid) (x y : List ℕ) → Fits a → Fits b → spelling a ++ x ≡ spelling b ++ y → (a ≡ b) × (x ≡ y) }
+{}
+
+/// A text determines its id.
+pub fn ids_have_one_text()
+    ensures { (a b : Eid) → Fits a → Fits b → text_form a ≡ text_form b → a ≡ b }
+{}
+
+/// What is spelled as an id is read as that id, whatever follows it; and what is read as an id is spelled so, where the
+/// bytes are below 256.
+pub fn ids_are_read_as_spelled()
+    ensures again { (eid : Eid) (rest : List ℕ) → Fits eid → id_at (spelling eid ++ rest) ≡ Ok (eid, rest) }
+    ensures means { (bytes : List ℕ) (eid : Eid) (rest : List ℕ) → ((i : ℕ) → slice_index bytes i < 256) → id_at bytes ≡ Ok (eid, rest)
+        → (bytes ≡ spelling eid ++ rest) × Fits eid }
+{}
