@@ -6,12 +6,22 @@ use Rattle.bp_eid.specs.declared.eid.Eid.{Eid}
 use Rattle.bp_eid.specs.declared.eid.Eid.TheVariants.{Null, Dtn, Ipn}
 use Rattle.bp_eid.specs.DtnText.{IsDtnText, node_name}
 
--- The spelling: an array of the scheme's number and the part of that scheme. The null id is 0 in the scheme 1, dtn
--- (section 4.2.5.1.1). An id of the scheme 2, ipn, has a node number and a service number (section 4.2.5.1.2).
+-- the number of its scheme: 1 is dtn, 2 is ipn
+abbrev pub scheme : Eid → ℕ
+scheme Null = 1
+scheme (Dtn text) = 1
+scheme (Ipn node service) = 2
+
+-- The part of its scheme. In the scheme dtn it is 0 for the null id, else a text (section 4.2.5.1.1). In the scheme ipn it
+-- is a node number and a service number (section 4.2.5.1.2).
+abbrev pub specific_part : Eid → List ℕ
+specific_part Null = uint 0
+specific_part (Dtn text) = text_string text
+specific_part (Ipn node service) = array_head 2 ++ (uint node ++ uint service)
+
+-- an array of both
 unfoldable pub spelling : Eid → List ℕ
-spelling Null = array_head 2 ++ (uint 1 ++ uint 0)
-spelling (Dtn text) = array_head 2 ++ (uint 1 ++ text_string text)
-spelling (Ipn node service) = array_head 2 ++ (uint 2 ++ (array_head 2 ++ (uint node ++ uint service)))
+spelling eid = array_head 2 ++ (uint (scheme eid) ++ specific_part eid)
 
 -- The text, as the URI that the same sections give. Numbers are decimal, without leading zeros.
 unfoldable pub text_form : Eid → List ℕ

@@ -117,6 +117,21 @@ fn id(alloc: Global, bytes: &[u8]) -> Result<(Eid, &[u8]), ReadError>
     }
 }
 
+/// The id at the front with its length.
+#[tactic(auto, unfolding(crate::specs::Reading::read_id))]
+fn front(alloc: Global, bytes: &[u8]) -> Result<EidAt, SpellError>
+    ensures { Answers result (read_id bytes.now) }
+{
+    match id(alloc, bytes) {
+        Ok((eid, rest)) => Ok(EidAt {
+            eid,
+            len: bytes.len() - rest.len(),
+        }),
+        Err(ReadError::Stop(stop)) => Err(SpellError::Fault(stop.fault(bytes.len()))),
+        Err(ReadError::NoMemory) => Err(SpellError::NoMemory),
+    }
+}
+
 impl Eid {
     /// Reads the id at the front. Bytes may follow it. A fault is the first that reading from the left meets.
     pub fn read(alloc: Global, bytes: &[u8]) -> Result<EidAt, SpellError>
@@ -129,13 +144,6 @@ impl Eid {
         ensures exact { Answers result (read_id bytes.now) }
     {
         laws::heads_are_read_as_spelled();
-        match id(alloc, bytes) {
-            Ok((eid, rest)) => Ok(EidAt {
-                eid,
-                len: bytes.len() - rest.len(),
-            }),
-            Err(ReadError::Stop(stop)) => Err(SpellError::Fault(stop.fault(bytes.len()))),
-            Err(ReadError::NoMemory) => Err(SpellError::NoMemory),
-        }
+        front(alloc, bytes)
     }
 }

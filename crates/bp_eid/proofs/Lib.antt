@@ -1,0 +1,5 @@
+pub mod Steps
+pub mod Tokens
+pub mod Ids
+pub mod Within
+pub mod Read
