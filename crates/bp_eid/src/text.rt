@@ -16,9 +16,10 @@ fn put_decimal(out: &mut Bytes, number: u64) -> Result<(), NoMemory>
     ensures ok { OnOk result (out.new ≡ out.old ++ decimal number) }
     ensures err { OnErr result (take (length out.old) out.new ≡ out.old) }
 {
-    if number >= 10 {
-        put_decimal(out, number / 10)?;
+    if number < 10 {
+        return out.extend(&[b'0' + number as u8]);
     }
+    put_decimal(out, number / 10)?;
     out.extend(&[b'0' + (number % 10) as u8])
 }
 
@@ -69,6 +70,7 @@ impl Eid {
     }
 
     /// Appends the text, or for want of memory a part of it.
+    #[tactic(auto, unfolding(crate::specs::EndpointId::text_form))]
     fn put_text_parts(&self, out: &mut Bytes) -> Result<(), NoMemory>
         ensures ok { OnOk result (out.new ≡ out.old ++ text_form self.now) }
         ensures err { OnErr result (take (length out.old) out.new ≡ out.old) }

@@ -49,12 +49,14 @@ impl Eid {
     }
 }
 
-/// How many bytes the spelling of an unsigned number has.
-#[tactic(auto, unfolding(crate::specs::Reading::id_at))]
-fn size_of(value: u64) -> u64
-    ensures { result ≡ length (uint value) }
+/// How many bytes a head has.
+fn head_size(major: u8, value: u64) -> u64
+    requires { IsHead (record { major = major; value = value }) }
+    ensures size { result ≡ length (head_spelling major value) }
+    ensures most { result ≤ 9 }
+    ensures short { value < 2 ^ 16 → result ≤ 3 }
 {
-    let bytes = head_bytes(Head { major: 0, value });
+    let bytes = head_bytes(Head { major, value });
     bytes.as_slice().len() as u64
 }
 
@@ -107,9 +109,9 @@ impl Eid {
             Eid::Null => 3,
             Eid::Dtn(text) => {
                 let len = text.bytes().len() as u64;
-                2 + size_of(len) + len
+                2 + head_size(3, len) + len
             }
-            Eid::Ipn { node, service } => 3 + size_of(*node) + size_of(*service),
+            Eid::Ipn { node, service } => 3 + head_size(0, *node) + head_size(0, *service),
         }
     }
 }
