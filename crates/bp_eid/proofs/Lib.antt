@@ -6,3 +6,5 @@ pub mod Read
 pub mod Pieces
 pub mod Feeding
 pub mod Lengths
+pub mod Decimals
+pub mod Texts

@@ -1,3 +1,4 @@
 pub mod DtnText
 pub mod EndpointId
+pub mod TextAnswer
 pub mod Reading

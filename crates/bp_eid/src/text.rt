@@ -1,9 +1,9 @@
 //! The text of endpoint ids.
 
-ghost use Rattle.std.specs.Prelude.{◌≡◌, ◌<◌, ◌^◌, ◌++◌, ◌∷◌, ℕ, List, length, take, ⊤, IfOk, IfSome, IfNone, Some, OnOk, OnErr, MatchOption, codes};
+ghost use Rattle.std.specs.Prelude.{◌≡◌, ◌≢◌, ◌++◌, ℕ, List, length, take, IfOk, IfSome, IfNone, Some, OnOk, OnErr, MatchOption};
 ghost use Rattle.std.specs.Fmt.{decimal};
 ghost use Rattle.bp_eid.specs.EndpointId.{text_form, Fits};
-ghost use Rattle.bp_eid.specs.DtnText.{IsDtnText};
+ghost use Rattle.bp_eid.specs.TextAnswer.{IsNumberOf, AreNumbersOf, IsIdOf};
 ghost use Rattle.bp_eid.specs.declared.eid.Eid.{Eid};
 
 use crate::dtn_text::{DtnText, is_dtn_text};
@@ -25,25 +25,56 @@ fn put_decimal(out: &mut Bytes, number: u64) -> Result<(), NoMemory>
 
 /// The number whose decimal digits these are, without leading zeros.
 fn number_of(digits: &str) -> Option<u64>
-    ensures { MatchOption result ((n : ℕ) → n < 2 ^ 64 → digits.now ≡ decimal n → ⊥) (λ n. digits.now ≡ decimal n) }
+    ensures { IsNumberOf digits.now result }
 {
-    let bytes = digits.as_bytes();
-    if bytes.starts_with(b"+") || (bytes.starts_with(b"0") && bytes.len() > 1) {
+    let [first, rest @ ..] = digits.as_bytes() else {
+        return None;
+    };
+    if *first == b'+' || (*first == b'0' && !rest.is_empty()) {
         return None;
     }
     digits.parse().ok()
 }
 
-/// The id of the scheme ipn whose text is `ipn:` and these bytes.
-fn ipn_of(part: &str) -> Option<Eid>
-    ensures some { IfSome result (λ eid. Fits eid × (codes "ipn:" ++ part.now ≡ text_form eid)) }
-    ensures none { IfNone result ((eid : Eid) → Fits eid → codes "ipn:" ++ part.now ≡ text_form eid → ⊥) }
+/// The node number and the service number in the text of an id of the scheme ipn, after `ipn:`.
+fn numbers_of(part: &str) -> Option<(u64, u64)>
+    ensures { AreNumbersOf part.now result }
 {
     let (node, service) = part.split_once('.')?;
-    Some(Eid::Ipn {
-        node: number_of(node)?,
-        service: number_of(service)?,
-    })
+    match (number_of(node), number_of(service)) {
+        (Some(node), Some(service)) => Some((node, service)),
+        _ => None,
+    }
+}
+
+/// What follows these bytes at the front.
+fn after<'a>(text: &'a str, front: &str) -> Option<&'a str>
+    ensures { MatchOption result ((rest : List ℕ) → text.now ≢ front.now ++ rest) (λ rest. text.now ≡ front.now ++ rest.now) }
+{
+    text.strip_prefix(front)
+}
+
+/// The id whose text this is.
+fn parse(alloc: Global, text: &str) -> Result<Option<Eid>, NoMemory>
+    ensures { IfOk result (IsIdOf text.now) }
+{
+    if text == "dtn:none" {
+        return Ok(Some(Eid::Null));
+    }
+    if let Some(part) = after(text, "dtn:") {
+        let part = part.as_bytes();
+        if !is_dtn_text(part) {
+            return Ok(None);
+        }
+        return Ok(Some(Eid::Dtn(DtnText::copied(alloc, part)?)));
+    }
+    let Some(part) = after(text, "ipn:") else {
+        return Ok(None);
+    };
+    match numbers_of(part) {
+        Some((node, service)) => Ok(Some(Eid::Ipn { node, service })),
+        None => Ok(None),
+    }
 }
 
 impl Eid {
@@ -53,20 +84,7 @@ impl Eid {
         ensures none { IfOk result (λ found. IfNone found ((eid : Eid) → Fits eid → text.now ≡ text_form eid → ⊥)) }
         ensures only { (eid : Eid) → Fits eid → text.now ≡ text_form eid → IfOk result (λ found. found ≡ Some eid) }
     {
-        if text == "dtn:none" {
-            return Ok(Some(Eid::Null));
-        }
-        if let Some(part) = text.strip_prefix("dtn:") {
-            let part = part.as_bytes();
-            if !is_dtn_text(part) {
-                return Ok(None);
-            }
-            return Ok(Some(Eid::Dtn(DtnText::copied(alloc, part)?)));
-        }
-        match text.strip_prefix("ipn:") {
-            Some(part) => Ok(ipn_of(part)),
-            None => Ok(None),
-        }
+        parse(alloc, text)
     }
 
     /// Appends the text, or for want of memory a part of it.
