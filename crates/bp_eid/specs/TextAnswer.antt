@@ -1,8 +1,12 @@
 -- What the text of an endpoint id, or a part of it, stands for.
-use Rattle.std.specs.Prelude.{◌≡◌, ℕ, ◌^◌, ◌<◌, List, ◌∷◌, ◌++◌, Option, Some, None}
+use Rattle.std.specs.Prelude.{◌≡◌, ℕ, ◌^◌, ◌<◌, ◌⊎◌, List, ◌∷◌, ◌++◌, length, slice_index, Option, Some, None}
 use Rattle.std.specs.Fmt.{decimal}
 use Rattle.bp_eid.specs.declared.eid.Eid.{Eid}
 use Rattle.bp_eid.specs.EndpointId.{text_form, Fits}
+
+-- A plus stands at the front, or a zero before more.
+abbrev pub IsPadded : List ℕ → Type 0
+IsPadded text = (slice_index text 0 ≡ 43) ⊎ ((slice_index text 0 ≡ 48) × (1 < length text))
 
 -- the number that has these digits, if one has them
 abbrev pub IsNumberOf : List ℕ → Option ℕ → Type 0

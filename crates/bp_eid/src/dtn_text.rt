@@ -1,6 +1,6 @@
 //! Texts of the dtn scheme (RFC 9171, section 4.2.5.1.1).
 
-ghost use Rattle.std.specs.Prelude.{◌≡◌, ◌≤◌, ◌==◌, not, List, length, IfOk, IfErr};
+ghost use Rattle.std.specs.Prelude.{◌≡◌, ◌==◌, ◌↔◌, not, IsOk, IfOk, IfErr};
 ghost use Rattle.std.specs.List.{list_all, list_any, before_first};
 ghost use Rattle.bp_eid.specs.DtnText.{IsDtnText, is_dtn_text, node_name, is_visible, slash};
 
@@ -66,8 +66,9 @@ pub(crate) fn is_dtn_text(text: &[u8]) -> bool
 impl DtnText {
     /// The bytes as the text of a dtn id. Where they aren't one, they are handed back. Takes no memory.
     pub fn of(content: Bytes) -> Result<DtnText, Bytes>
-        ensures text { IfOk result (λ text. (text ≡ content) × IsDtnText content) }
-        ensures none { IfErr result (λ back. (back ≡ content) × ¬ (IsDtnText content)) }
+        ensures takes { IsOk result ↔ IsDtnText content }
+        ensures same { IfOk result (λ text. text ≡ content) }
+        ensures back { IfErr result (λ back. back ≡ content) }
     {
         if is_dtn_text(content.as_slice()) {
             Ok(DtnText { content })

@@ -12,3 +12,6 @@ mod writing;
 pub use dtn_text::DtnText;
 pub use eid::Eid;
 pub use reading::EidAt;
+
+#[cfg(test)]
+mod tests;

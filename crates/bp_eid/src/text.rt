@@ -1,9 +1,9 @@
 //! The text of endpoint ids.
 
-ghost use Rattle.std.specs.Prelude.{◌≡◌, ◌≢◌, ◌++◌, ℕ, List, length, take, IfOk, IfSome, IfNone, Some, OnOk, OnErr, MatchOption};
+ghost use Rattle.std.specs.Prelude.{◌≡◌, ◌≢◌, ◌++◌, ◌↔◌, IsTrue, ℕ, List, length, take, IfOk, IfSome, IfNone, Some, OnOk, OnErr, MatchOption};
 ghost use Rattle.std.specs.Fmt.{decimal};
 ghost use Rattle.bp_eid.specs.EndpointId.{text_form, Fits};
-ghost use Rattle.bp_eid.specs.TextAnswer.{IsNumberOf, AreNumbersOf, IsIdOf};
+ghost use Rattle.bp_eid.specs.TextAnswer.{IsPadded, IsNumberOf, AreNumbersOf, IsIdOf};
 ghost use Rattle.bp_eid.specs.declared.eid.Eid.{Eid};
 
 use crate::dtn_text::{DtnText, is_dtn_text};
@@ -23,14 +23,21 @@ fn put_decimal(out: &mut Bytes, number: u64) -> Result<(), NoMemory>
     out.extend(&[b'0' + (number % 10) as u8])
 }
 
+/// Whether a sign stands at the front, or a zero before more.
+fn is_padded(digits: &[u8]) -> bool
+    ensures { IsTrue result ↔ IsPadded digits.now }
+{
+    let [first, rest @ ..] = digits else {
+        return false;
+    };
+    *first == b'+' || (*first == b'0' && !rest.is_empty())
+}
+
 /// The number whose decimal digits these are, without leading zeros.
 fn number_of(digits: &str) -> Option<u64>
     ensures { IsNumberOf digits.now result }
 {
-    let [first, rest @ ..] = digits.as_bytes() else {
-        return None;
-    };
-    if *first == b'+' || (*first == b'0' && !rest.is_empty()) {
+    if is_padded(digits.as_bytes()) {
         return None;
     }
     digits.parse().ok()
