@@ -1,5 +1,5 @@
 -- Pieces that are fed one after the other.
-use Rattle.std.proofs.Common.{◌≡◌, ℕ, ◌+◌, ◌≤◌, List, ◌++◌, length, subst, append_assoc, arith}
+use Rattle.std.proofs.Common.{ℕ, ◌+◌, ◌≤◌, List, ◌++◌, length, subst, append_assoc, arith}
 use Rattle.std.proofs.lemmas.List.{length-append}
 
 -- Feeding a piece led from one value to the other.

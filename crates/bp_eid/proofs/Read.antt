@@ -1,8 +1,7 @@
 -- What reading an id answers of a whole input.
-use Rattle.std.proofs.Common.{◌≡◌, ℕ, ◌+◌, ◌-◌, ◌<◌, ◌≤◌, List, [], ◌∷◌, ◌++◌, length, take, Result, Ok, Err, refl, sym, ◌∙◌, ap, subst, arith}
+use Rattle.std.proofs.Common.{◌≡◌, ℕ, ◌+◌, ◌-◌, ◌≤◌, List, ◌++◌, length, take, Result, Ok, Err, refl, ◌∙◌, ap, subst, arith}
 use Rattle.std.specs.Prelude.{IfOk}
 use Rattle.std.proofs.lemmas.List.{length-append, take_at}
-use Rattle.cbor_profile.specs.declared.fault.Fault.{Fault}
 use Rattle.cbor_profile.specs.declared.fault.SpellError.{SpellError}
 use Rattle.bp_eid.specs.declared.eid.Eid.{Eid}
 use Rattle.bp_eid.specs.declared.reading.EidAt.{EidAt}

@@ -1,5 +1,5 @@
 -- Heads are read as they are spelled, and the tokens of an id with them.
-use Rattle.std.proofs.Common.{◌≡◌, ℕ, suc, ◌+◌, ◌/◌, ◌%◌, ◌^◌, ◌<◌, ◌≤◌, ◌⊎◌, inl, inr, Bool, true, false, cond, ltb, eqb, ◌||◌, List, [], ◌∷◌, ◌++◌, length, take, drop, Result, Ok, Err, refl, sym, ◌∙◌, ap, subst, arith}
+use Rattle.std.proofs.Common.{◌≡◌, ℕ, ◌/◌, ◌%◌, ◌^◌, ◌<◌, ◌≤◌, inl, Bool, true, false, cond, ltb, eqb, ◌||◌, List, [], ◌∷◌, ◌++◌, length, take, drop, Result, Ok, Err, refl, sym, ◌∙◌, subst, arith}
 use Rattle.std.specs.List.{list_any}
 use Rattle.std.proofs.lemmas.Bool.{ltb-false, le-ltb, eqb-true}
 use Rattle.std.proofs.lemmas.List.{take_at, drop_at, take-append-drop, length-append, length-take}
@@ -7,13 +7,12 @@ use Rattle.cbor_profile.specs.declared.head.Head.{Head}
 use Rattle.cbor_profile.specs.declared.head.HeadRead.{HeadRead}
 use Rattle.cbor_profile.specs.declared.head.HeadRead.TheVariants.{Whole, Short, NotShortest, Bad}
 use Rattle.cbor_profile.specs.declared.fault.Reason.{Reason}
-use Rattle.cbor_profile.specs.declared.fault.Reason.TheVariants.{Truncated, WrongCount, WrongValue, WrongText, WrongKind}
+use Rattle.cbor_profile.specs.declared.fault.Reason.TheVariants.{Truncated, WrongCount, WrongText, WrongKind}
 use Rattle.cbor_profile.specs.Head.{spelling, head_spelling, IsHead, read_head, is_bad, following, argument, least}
 use Rattle.cbor_profile.specs.Token.{token_head, after_read}
-use Rattle.cbor_profile.specs.Put.{uint, array_head, text_string}
-use Rattle.bp_eid.specs.declared.stop.Stop.{Stop}
+use Rattle.cbor_profile.specs.Put.{uint, array_head}
 use Rattle.bp_eid.specs.DtnText.{is_dtn_text, IsDtnText}
-use Rattle.bp_eid.specs.Reading.{◌>>=◌, stops, head_at, pair_at, number_at, content_at}
+use Rattle.bp_eid.specs.Reading.{stops, head_at, pair_at, number_at, content_at}
 use Rattle.bp_eid.proofs.Steps.{IsBytes, IsBytes-drop, bind_ok, at_token_ok, passed, let_through, ok_is, Takes}
 
 -- the law of heads, as the crate below gives it

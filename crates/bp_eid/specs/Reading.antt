@@ -61,8 +61,8 @@ unfoldable pub dtn_at : List ℕ → Result (Eid × List ℕ) Stop
 dtn_at bytes = do
   head ← head_at (0 ∷ 3 ∷ []) bytes
   if head.0.major == 0 then (if head.0.value == 0 then Ok (Null, head.1) else stops bytes WrongValue)
-    else if nat_lt 1024 head.0.value then stops bytes WrongValue
-    else content_at head.0.value head.1 >>= λ text. Ok (Dtn text.0, text.1)
+      else if nat_lt 1024 head.0.value then stops bytes WrongValue
+      else content_at head.0.value head.1 >>= λ text. Ok (Dtn text.0, text.1)
 
 -- After the scheme 2: an array of two numbers.
 unfoldable pub ipn_at : List ℕ → Result (Eid × List ℕ) Stop
@@ -79,8 +79,8 @@ id_at bytes = do
   rest ← pair_at bytes
   scheme ← number_at rest
   if scheme.0 == 1 then dtn_at scheme.1
-    else if scheme.0 == 2 then ipn_at scheme.1
-    else stops rest WrongValue
+      else if scheme.0 == 2 then ipn_at scheme.1
+      else stops rest WrongValue
 
 -- ---- the answer to a whole input
 

@@ -27,7 +27,15 @@ fn reads_the_three_kinds(rt: HostRuntime) -> Result<(), Fail> {
     assert!(rt; matches!(null.eid, Eid::Null));
     let ipn = Eid::read(rt.alloc(), b"\x82\x02\x82\x01\x18\x18rest")?;
     assert_eq!(rt; ipn.len, 6);
-    assert!(rt; matches!(ipn.eid, Eid::Ipn { node: 1, service: 24 }));
+    assert!(rt;
+        matches!(
+            ipn.eid,
+            Eid::Ipn {
+                node: 1,
+                service: 24
+            }
+        )
+    );
     let dtn = Eid::read(rt.alloc(), b"\x82\x01\x64//a/")?;
     assert_eq!(rt; dtn.len, 7);
     let mut text = Bytes::new(rt.alloc());

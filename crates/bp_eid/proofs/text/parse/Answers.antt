@@ -1,9 +1,8 @@
-use Rattle.std.proofs.Common.{◌≡◌, ℕ, List, ◌++◌, ◌∙◌, sym, ap, arith}
+use Rattle.std.proofs.Common.{ℕ, List, ◌++◌, ◌∙◌, sym, ap}
 use Rattle.std.specs.Prelude.{codes}
-use Rattle.std.specs.Str.{bytes_eq}
 use Rattle.std.proofs.lemmas.Bool.{false≢true}
 use Rattle.std.proofs.lemmas.Slice.Eq.{bytes_eq-Decides}
-use Rattle.bp_eid.specs.DtnText.{is_dtn_text, IsDtnText}
+use Rattle.bp_eid.specs.DtnText.{is_dtn_text}
 use Rattle.bp_eid.specs.EndpointId.{text_form}
 use Rattle.bp_eid.proofs.Texts.{no_dtn_text, no_scheme, no_ipn_text}
 use Rattle.bp_eid.proofs.text.parse.Goals as goal

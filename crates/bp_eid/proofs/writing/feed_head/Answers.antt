@@ -1,4 +1,4 @@
-use Rattle.std.proofs.Common.{◌≡◌, List, ℕ, sym, ◌∙◌, subst}
+use Rattle.std.proofs.Common.{◌≡◌, List, ℕ, ◌∙◌, subst}
 use Rattle.cbor_profile.specs.Head.{spelling, head_spelling}
 use Rattle.bp_eid.proofs.Feeding.{Feeds}
 use Rattle.bp_eid.proofs.writing.feed_head.Goals as goal

@@ -1,5 +1,5 @@
-use Rattle.std.proofs.Common.{◌≡◌, length, ap, ◌∙◌, arith}
-use Rattle.cbor_profile.specs.Head.{spelling, head_spelling}
+use Rattle.std.proofs.Common.{length, ap, ◌∙◌, arith}
+use Rattle.cbor_profile.specs.Head.{spelling}
 use Rattle.bp_eid.proofs.Lengths.{length-head_spelling, short_head}
 use Rattle.bp_eid.proofs.writing.head_size.Goals as goal
 

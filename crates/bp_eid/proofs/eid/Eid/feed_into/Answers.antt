@@ -1,4 +1,4 @@
-use Rattle.std.proofs.Common.{◌≡◌, ℕ, List, ◌++◌, length, sym, ◌∙◌, ap, subst}
+use Rattle.std.proofs.Common.{ℕ, List, length, sym, ◌∙◌, ap, subst}
 use Rattle.cbor_profile.specs.Head.{head_spelling}
 use Rattle.bp_eid.specs.EndpointId.{spelling}
 use Rattle.bp_eid.proofs.Feeding.{Feeds, Feeds-then}

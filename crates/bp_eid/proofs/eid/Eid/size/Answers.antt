@@ -1,5 +1,4 @@
-use Rattle.std.proofs.Common.{◌≡◌, ℕ, length, ap, sym, ◌∙◌, arith}
-use Rattle.bp_eid.specs.EndpointId.{spelling}
+use Rattle.std.proofs.Common.{length, ap, sym, arith}
 use Rattle.bp_eid.proofs.Ids.{length-dtn_text}
 use Rattle.bp_eid.proofs.Pieces.{length-null, length-dtn, length-ipn}
 use Rattle.bp_eid.proofs.eid.Eid.size.Goals as goal
