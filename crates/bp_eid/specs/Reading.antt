@@ -1,6 +1,6 @@
 -- Reading an endpoint id from the front of a byte list, token by token (RFC 9171, section 4.2.5; RFC 8949, section 3). A
 -- token is a head, or the content of a text string.
-use Rattle.std.specs.Prelude.{◌≡◌, ℕ, ◌-◌, ◌==◌, nat_lt, if◌then◌else◌, List, [], ◌∷◌, length, take, drop, Result, Ok, Err}
+use Rattle.std.specs.Prelude.{◌≡◌, ℕ, ◌-◌, ◌==◌, nat_lt, if◌then◌else◌, List, [], ◌∷◌, length, take, drop, Result, Ok, Err, IsOk}
 use Rattle.cbor_profile.specs.declared.head.Head.{Head}
 use Rattle.cbor_profile.specs.declared.fault.Reason.{Reason}
 use Rattle.cbor_profile.specs.declared.fault.Reason.TheVariants.{Truncated, WrongCount, WrongValue, WrongText}
@@ -107,21 +107,21 @@ abbrev pub Stands : {X Y : Type 0} → (X → Y) → Result X Stop → Result Y 
 Stands view (Ok x) read = read ≡ Ok (view x)
 Stands view (Err stop) read = read ≡ Err stop
 
+-- an error is that of reading; memory ran out only where reading gives an id
 abbrev pub Fails : {Y : Type 0} → ReadError → Result Y Stop → Type 0
-Fails reads.NoMemory read = Unit {0}
+Fails reads.NoMemory read = IsOk read
 Fails (reads.Stop stop) read = read ≡ Err stop
 
--- it is what reading gives, unless memory ran out
+-- it is what reading gives, or memory ran out
 abbrev pub Gives : {X Y : Type 0} → (X → Y) → Result X ReadError → Result Y Stop → Type 0
 Gives view (Ok x) read = read ≡ Ok (view x)
 Gives view (Err e) read = Fails e read
 
--- an error is that of reading, unless memory ran out
+-- the same of a whole input
 abbrev pub IsErrorOf : SpellError → Result EidAt Fault → Type 0
-IsErrorOf errors.NoMemory read = Unit {0}
+IsErrorOf errors.NoMemory read = IsOk read
 IsErrorOf (errors.Fault fault) read = read ≡ Err fault
 
--- it is what reading gives, unless memory ran out
 abbrev pub Answers : Result EidAt SpellError → Result EidAt Fault → Type 0
 Answers (Ok at) read = read ≡ Ok at
 Answers (Err e) read = IsErrorOf e read

@@ -22,3 +22,7 @@ AreNumbersOf text (Some x) = (x.0 < 2 ^ 64) × (x.1 < 2 ^ 64) × (text ≡ decim
 abbrev pub IsIdOf : List ℕ → Option Eid → Type 0
 IsIdOf text None = (eid : Eid) → Fits eid → text ≡ text_form eid → ⊥
 IsIdOf text (Some eid) = Fits eid × (text ≡ text_form eid)
+
+-- it is the text of some id
+abbrev pub IsIdText : List ℕ → Type 0
+IsIdText text = (eid : Eid) × Fits eid × (text ≡ text_form eid)

@@ -140,7 +140,7 @@ impl Eid {
         // What is spelled so is read, whatever follows it.
         ensures only { (eid : Eid) (rest : List ℕ) → Fits eid → bytes.now ≡ spelling eid ++ rest
             → Answers result (Ok (record { eid = eid; len = length (spelling eid) })) }
-        // Which fault it is.
+        // Which fault it is. Memory runs out only where there is none.
         ensures exact { Answers result (read_id bytes.now) }
     {
         laws::heads_are_read_as_spelled();

@@ -3,7 +3,7 @@
 ghost use Rattle.std.specs.Prelude.{◌≡◌, ◌≢◌, ◌++◌, ◌↔◌, IsTrue, ℕ, List, length, take, IfOk, IfSome, IfNone, Some, OnOk, OnErr, MatchOption};
 ghost use Rattle.std.specs.Fmt.{decimal};
 ghost use Rattle.bp_eid.specs.EndpointId.{text_form, Fits};
-ghost use Rattle.bp_eid.specs.TextAnswer.{IsPadded, IsNumberOf, AreNumbersOf, IsIdOf};
+ghost use Rattle.bp_eid.specs.TextAnswer.{IsPadded, IsNumberOf, AreNumbersOf, IsIdOf, IsIdText};
 ghost use Rattle.bp_eid.specs.declared.eid.Eid.{Eid};
 
 use crate::dtn_text::{DtnText, is_dtn_text};
@@ -63,7 +63,8 @@ fn after<'a>(text: &'a str, front: &str) -> Option<&'a str>
 
 /// The id whose text this is.
 fn parse(alloc: Global, text: &str) -> Result<Option<Eid>, NoMemory>
-    ensures { IfOk result (IsIdOf text.now) }
+    ensures found { IfOk result (IsIdOf text.now) }
+    ensures memory { OnErr result (IsIdText text.now) }
 {
     if text == "dtn:none" {
         return Ok(Some(Eid::Null));
@@ -87,9 +88,12 @@ fn parse(alloc: Global, text: &str) -> Result<Option<Eid>, NoMemory>
 impl Eid {
     /// The id whose text this is, or none where it is the text of no id.
     pub fn parse_text(alloc: Global, text: &str) -> Result<Option<Eid>, NoMemory>
+        // What is found has this text.
         ensures some { IfOk result (λ found. IfSome found (λ eid. Fits eid × (text.now ≡ text_form eid))) }
         ensures none { IfOk result (λ found. IfNone found ((eid : Eid) → Fits eid → text.now ≡ text_form eid → ⊥)) }
+        // Every text is found, unless memory runs out, and it runs out only at the text of an id.
         ensures only { (eid : Eid) → Fits eid → text.now ≡ text_form eid → IfOk result (λ found. found ≡ Some eid) }
+        ensures memory { OnErr result (IsIdText text.now) }
     {
         parse(alloc, text)
     }
