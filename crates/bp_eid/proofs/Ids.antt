@@ -128,7 +128,7 @@ ipn_means laws bytes x fits e =
     let service = number_means laws b.0.1 c.0 node.0.rest_fits c.1 in
     let numbers = Takes-then a.0 (uint b.0.0) b.0.1 (uint c.0.0) c.0.1 node.0 service.0 in
     let all = Takes-then bytes (array_head 2) a.0 (uint b.0.0 ++ uint c.0.0) c.0.1 pair numbers in
-    reads_same 2 bytes (Ipn b.0.0 c.0.0, c.0.1) x (record { takes = all; fits = (node.1, service.1); number_is = refl }) (ok_is (Ipn b.0.0 c.0.0, c.0.1) x c.2)
+    reads_same 2 bytes (Ipn b.0.0 c.0.0, c.0.1) x (record { takes = all; fits = (node.1, service.1); number_is = refl {a = 2} }) (ok_is (Ipn b.0.0 c.0.0, c.0.1) x c.2)
 
 part_means : (laws : HeadLaws) (number : ℕ) (rest bytes : List ℕ) (x : Eid × List ℕ) → IsBytes bytes
     → cond (eqb number 1) (dtn_at bytes) (cond (eqb number 2) (ipn_at bytes) (stops rest WrongValue)) ≡ Ok x → Reads number bytes x

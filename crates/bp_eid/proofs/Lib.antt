@@ -8,3 +8,4 @@ pub mod Feeding
 pub mod Lengths
 pub mod Decimals
 pub mod Texts
+pub mod Growing

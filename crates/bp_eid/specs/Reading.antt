@@ -12,8 +12,6 @@ use Rattle.bp_eid.specs.declared.eid.Eid.{Eid}
 use Rattle.bp_eid.specs.declared.eid.Eid.TheVariants.{Null, Dtn, Ipn}
 use Rattle.bp_eid.specs.declared.reading.EidAt.{EidAt}
 use Rattle.bp_eid.specs.declared.stop.Stop.{Stop}
-use Rattle.bp_eid.specs.declared.stop.ReadError.{ReadError}
-use Rattle.bp_eid.specs.declared.stop.ReadError.TheVariants as reads
 use Rattle.bp_eid.specs.DtnText.{is_dtn_text}
 
 -- ---- tokens
@@ -102,26 +100,12 @@ read_id bytes = answer bytes (id_at bytes)
 
 -- ---- what a function returned
 
--- it is what reading gives
-abbrev pub Stands : {X Y : Type 0} → (X → Y) → Result X Stop → Result Y Stop → Type 0
-Stands view (Ok x) read = read ≡ Ok (view x)
-Stands view (Err stop) read = read ≡ Err stop
-
 -- an error is that of reading; memory ran out only where reading gives an id
-abbrev pub Fails : {Y : Type 0} → ReadError → Result Y Stop → Type 0
-Fails reads.NoMemory read = IsOk read
-Fails (reads.Stop stop) read = read ≡ Err stop
-
--- it is what reading gives, or memory ran out
-abbrev pub Gives : {X Y : Type 0} → (X → Y) → Result X ReadError → Result Y Stop → Type 0
-Gives view (Ok x) read = read ≡ Ok (view x)
-Gives view (Err e) read = Fails e read
-
--- the same of a whole input
 abbrev pub IsErrorOf : SpellError → Result EidAt Fault → Type 0
 IsErrorOf errors.NoMemory read = IsOk read
 IsErrorOf (errors.Fault fault) read = read ≡ Err fault
 
+-- it is what reading gives, or memory ran out
 abbrev pub Answers : Result EidAt SpellError → Result EidAt Fault → Type 0
 Answers (Ok at) read = read ≡ Ok at
 Answers (Err e) read = IsErrorOf e read

@@ -1,7 +1,8 @@
 //! Laws over the definitions of this crate. Each is the contract of a function that does nothing but name the laws that it
 //! follows from.
 
-ghost use Rattle.std.specs.Prelude.{◌≡◌, ◌<◌, ◌≤◌, ◌++◌, ℕ, List, Ok, Err, length, slice_index};
+ghost use Rattle.std.specs.Prelude.{◌≡◌, ◌≢◌, ◌+◌, ◌<◌, ◌≤◌, ◌++◌, ℕ, List, Ok, Err, length, slice_index};
+ghost use Rattle.cbor_profile.specs.declared.fault.Reason.TheVariants.{Truncated};
 ghost use Rattle.bp_eid.specs.EndpointId.{spelling, text_form, Fits};
 ghost use Rattle.bp_eid.specs.Reading.{id_at};
 ghost use Rattle.bp_eid.specs.declared.eid.Eid.{Eid};
@@ -35,4 +36,11 @@ pub fn ids_are_read_as_spelled()
 pub fn reading_stays_within()
     ensures rest { (bytes : List ℕ) (eid : Eid) (rest : List ℕ) → id_at bytes ≡ Ok (eid, rest) → length rest ≤ length bytes }
     ensures stop { (bytes : List ℕ) (stop : Stop) → id_at bytes ≡ Err stop → stop.left ≤ length bytes }
+{}
+
+/// What is read, and where reading stops, stays the same whatever bytes are added, but where the bytes end too early.
+pub fn reading_stays_the_same()
+    ensures id { (bytes more : List ℕ) (eid : Eid) (rest : List ℕ) → id_at bytes ≡ Ok (eid, rest) → id_at (bytes ++ more) ≡ Ok (eid, rest ++ more) }
+    ensures stop { (bytes more : List ℕ) (stop : Stop) → id_at bytes ≡ Err stop → stop.reason ≢ Truncated
+        → id_at (bytes ++ more) ≡ Err (record { reason = stop.reason; left = stop.left + length more }) }
 {}

@@ -1,7 +1,8 @@
 //! Reading an endpoint id, token by token.
 
 ghost use Rattle.std.specs.Prelude.{◌≡◌, ◌≤◌, ◌∷◌, ◌++◌, ℕ, List, length, take, Ok, Err, IfOk};
-ghost use Rattle.bp_eid.specs.Reading.{Stands, Gives, Answers, head_at, pair_at, number_at, content_at, dtn_at, ipn_at, id_at, read_id, fault_of};
+ghost use Rattle.bp_eid.specs.Step.{Stands, Gives};
+ghost use Rattle.bp_eid.specs.Reading.{Answers, head_at, pair_at, number_at, content_at, dtn_at, ipn_at, id_at, read_id, fault_of};
 ghost use Rattle.bp_eid.specs.EndpointId.{spelling, Fits};
 ghost use Rattle.bp_eid.specs.declared.eid.Eid.{Eid};
 
