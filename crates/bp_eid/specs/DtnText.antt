@@ -10,8 +10,8 @@ slash = 47
 abbrev pub is_visible : ℕ → Bool
 is_visible b = nat_le 33 b && nat_le b 126
 
--- The text after `dtn:`. It has at most 1,024 bytes, all visible, begins with two slashes, and some byte after these is
--- another.
+-- The text after `dtn:`. It has at most 1,024 bytes, all visible, begins with two slashes, and has a byte after these that
+-- isn't a slash.
 unfoldable pub is_dtn_text : List ℕ → Bool
 is_dtn_text text =
     nat_le (length text) 1024

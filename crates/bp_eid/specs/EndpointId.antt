@@ -12,8 +12,8 @@ scheme Null = 1
 scheme (Dtn text) = 1
 scheme (Ipn node service) = 2
 
--- The part of its scheme. In the scheme dtn it is 0 for the null id, else a text (section 4.2.5.1.1). In the scheme ipn it
--- is a node number and a service number (section 4.2.5.1.2).
+-- The part specific to its scheme. In the scheme dtn it is 0 for the null id, else a text (section 4.2.5.1.1). In the
+-- scheme ipn it is a node number and a service number (section 4.2.5.1.2).
 abbrev pub specific_part : Eid → List ℕ
 specific_part Null = uint 0
 specific_part (Dtn text) = text_string text
@@ -35,8 +35,8 @@ Fits Null = Unit {0}
 Fits (Dtn text) = IsDtnText text
 Fits (Ipn node service) = (node < 2 ^ 64) × (service < 2 ^ 64)
 
--- Both are of the scheme ipn and have one node number, or both are of the scheme dtn and have one node name, which isn't
--- empty.
+-- Both name endpoints of one node (section 4.2.5.2): both are of the scheme ipn and have one node number, or both are of
+-- the scheme dtn and have one node name, which isn't empty.
 abbrev pub SameNode : Eid → Eid → Type 0
 SameNode (Ipn node service) (Ipn other service') = node ≡ other
 SameNode (Dtn text) (Dtn other) = (node_name text ≢ []) × (node_name text ≡ node_name other)

@@ -1,6 +1,6 @@
 //! Endpoint ids.
 
-ghost use Rattle.std.specs.Prelude.{◌≡◌, ◌≤◌, ◌↔◌, IsTrue, IfOk};
+ghost use Rattle.std.specs.Prelude.{◌≡◌, ◌↔◌, IsTrue, IfOk};
 ghost use Rattle.bp_eid.specs.EndpointId.{Fits, SameNode};
 
 use crate::dtn_text::DtnText;

@@ -1,15 +1,15 @@
 //! Reading an endpoint id, token by token.
 
-ghost use Rattle.std.specs.Prelude.{◌≡◌, ◌≤◌, ◌∷◌, ◌++◌, ℕ, List, length, take, Ok, Err, IfOk};
+ghost use Rattle.std.specs.Prelude.{◌≡◌, ◌≤◌, ◌++◌, ℕ, List, length, take, Ok, Err, IfOk};
 ghost use Rattle.bp_eid.specs.Step.{Stands, Gives};
-ghost use Rattle.bp_eid.specs.Reading.{Answers, head_at, pair_at, number_at, content_at, dtn_at, ipn_at, id_at, read_id, fault_of};
+ghost use Rattle.bp_eid.specs.Reading.{Answers, head_at, pair_at, number_at, content_at, dtn_at, ipn_at, id_at, read_id};
 ghost use Rattle.bp_eid.specs.EndpointId.{spelling, Fits};
 ghost use Rattle.bp_eid.specs.declared.eid.Eid.{Eid};
 
 use crate::dtn_text::{DtnText, TEXT_LIMIT, is_dtn_text};
 use crate::eid::Eid;
 use crate::stop::{ReadError, Stop};
-use cbor_profile::{Fault, Head, Reason, SpellError, head_of_token, laws};
+use cbor_profile::{Head, Reason, SpellError, head_of_token, laws};
 use std::alloc::Global;
 
 /// An id at the front of a byte list.

@@ -1,11 +1,9 @@
 //! Writing endpoint ids.
 
 ghost use Rattle.std.specs.Prelude.{◌≡◌, ◌+◌, ◌<◌, ◌≤◌, ◌^◌, ◌++◌, ℕ, List, length, take, OnOk, OnErr};
-ghost use Rattle.cbor_profile.specs.Put.{uint, array_head, text_string};
 ghost use Rattle.cbor_profile.specs.Head.{IsHead, head_spelling};
 ghost use Rattle.bp_eid.specs.EndpointId.{spelling, Fits};
 
-use crate::dtn_text::DtnText;
 use crate::eid::Eid;
 use cbor_profile::{Bytes, Feed, Head, NoMemory, head_bytes, put_array, put_text, put_uint};
 
