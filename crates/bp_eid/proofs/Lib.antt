@@ -1,0 +1,11 @@
+pub mod Steps
+pub mod Tokens
+pub mod Ids
+pub mod Within
+pub mod Read
+pub mod Pieces
+pub mod Feeding
+pub mod Lengths
+pub mod Decimals
+pub mod Texts
+pub mod Growing

@@ -1,0 +1,5 @@
+pub mod DtnText
+pub mod EndpointId
+pub mod TextAnswer
+pub mod Reading
+pub mod Step

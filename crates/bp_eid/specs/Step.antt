@@ -1,0 +1,20 @@
+-- What a step of reading returned.
+use Rattle.std.specs.Prelude.{◌≡◌, Result, Ok, Err, IsOk}
+use Rattle.bp_eid.specs.declared.stop.Stop.{Stop}
+use Rattle.bp_eid.specs.declared.stop.ReadError.{ReadError}
+use Rattle.bp_eid.specs.declared.stop.ReadError.TheVariants as errors
+
+-- it is what reading gives, seen by `view`
+abbrev pub Stands : {X Y : Type 0} → (X → Y) → Result X Stop → Result Y Stop → Type 0
+Stands view (Ok x) read = read ≡ Ok (view x)
+Stands view (Err stop) read = read ≡ Err stop
+
+-- an error is that of reading; memory ran out only where reading goes on
+abbrev pub Fails : {Y : Type 0} → ReadError → Result Y Stop → Type 0
+Fails errors.NoMemory read = IsOk read
+Fails (errors.Stop stop) read = read ≡ Err stop
+
+-- it is what reading gives, or memory ran out
+abbrev pub Gives : {X Y : Type 0} → (X → Y) → Result X ReadError → Result Y Stop → Type 0
+Gives view (Ok x) read = read ≡ Ok (view x)
+Gives view (Err e) read = Fails e read

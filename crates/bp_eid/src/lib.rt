@@ -1,0 +1,17 @@
+//! Endpoint ids of the bundle protocol (RFC 9171, section 4.2.5): their spelling, their text, and their node.
+#![tactic(auto)]
+
+mod dtn_text;
+mod eid;
+pub mod laws;
+mod reading;
+mod stop;
+mod text;
+mod writing;
+
+pub use dtn_text::DtnText;
+pub use eid::Eid;
+pub use reading::EidAt;
+
+#[cfg(test)]
+mod tests;

@@ -1,0 +1,115 @@
+//! Writing endpoint ids.
+
+ghost use Rattle.std.specs.Prelude.{◌≡◌, ◌+◌, ◌<◌, ◌≤◌, ◌^◌, ◌++◌, ℕ, List, length, take, OnOk, OnErr};
+ghost use Rattle.cbor_profile.specs.Head.{IsHead, head_spelling};
+ghost use Rattle.bp_eid.specs.EndpointId.{spelling, Fits};
+
+use crate::eid::Eid;
+use cbor_profile::{Bytes, Feed, Head, NoMemory, head_bytes, put_array, put_text, put_uint};
+
+impl Eid {
+    /// Appends the spelling, or for want of memory a part of it.
+    #[tactic(auto, unfolding(crate::specs::EndpointId::spelling))]
+    fn put_parts(&self, out: &mut Bytes) -> Result<(), NoMemory>
+        ensures ok { OnOk result (out.new ≡ out.old ++ spelling self.now) }
+        ensures err { OnErr result (take (length out.old) out.new ≡ out.old) }
+    {
+        put_array(out, 2)?;
+        match self {
+            Eid::Null => {
+                put_uint(out, 1)?;
+                put_uint(out, 0)
+            }
+            Eid::Dtn(text) => {
+                put_uint(out, 1)?;
+                put_text(out, text.bytes())
+            }
+            Eid::Ipn { node, service } => {
+                put_uint(out, 2)?;
+                put_array(out, 2)?;
+                put_uint(out, *node)?;
+                put_uint(out, *service)
+            }
+        }
+    }
+
+    /// Appends the one spelling (RFC 9171, section 4.2.5.1), or leaves the bytes as they were for want of memory.
+    pub fn put(&self, out: &mut Bytes) -> Result<(), NoMemory>
+        ensures ok { OnOk result (out.new ≡ out.old ++ spelling self.now) }
+        ensures err { OnErr result (out.new ≡ out.old) }
+    {
+        let before = out.len();
+        let put = self.put_parts(out);
+        if put.is_err() {
+            out.truncate(before);
+        }
+        put
+    }
+}
+
+/// How many bytes a head has.
+fn head_size(major: u8, value: u64) -> u64
+    requires { IsHead (record { major = major; value = value }) }
+    ensures size { result ≡ length (head_spelling major value) }
+    ensures most { result ≤ 9 }
+    ensures short { value < 2 ^ 16 → result ≤ 3 }
+{
+    let bytes = head_bytes(Head { major, value });
+    bytes.as_slice().len() as u64
+}
+
+/// Feeds a head.
+fn feed_head<F: Feed>(into: &mut F, major: u8, value: u64)
+    requires { IsHead (record { major = major; value = value }) }
+    ensures stands { (fed : List ℕ) → F.stands_for into.old fed → length fed + length (head_spelling major value) ≤ F.MOST
+        → F.stands_for into.new (fed ++ head_spelling major value) }
+    ensures fixed { F.fixed into.new ≡ F.fixed into.old }
+{
+    let bytes = head_bytes(Head { major, value });
+    into.feed(bytes.as_slice());
+}
+
+impl Eid {
+    /// Feeds the spelling. Takes no memory.
+    pub fn feed_into<F: Feed>(&self, into: &mut F)
+        ensures stands { (fed : List ℕ) → F.stands_for into.old fed → length fed + length (spelling self.now) ≤ F.MOST
+            → F.stands_for into.new (fed ++ spelling self.now) }
+        ensures fixed { F.fixed into.new ≡ F.fixed into.old }
+    {
+        feed_head(into, 4, 2);
+        match self {
+            Eid::Null => {
+                feed_head(into, 0, 1);
+                feed_head(into, 0, 0);
+            }
+            Eid::Dtn(text) => {
+                let text = text.bytes();
+                feed_head(into, 0, 1);
+                feed_head(into, 3, text.len() as u64);
+                into.feed(text);
+            }
+            Eid::Ipn { node, service } => {
+                feed_head(into, 0, 2);
+                feed_head(into, 4, 2);
+                feed_head(into, 0, *node);
+                feed_head(into, 0, *service);
+            }
+        }
+    }
+
+    /// How many bytes the spelling has. Takes no memory.
+    pub fn size(&self) -> u64
+        ensures size { result ≡ length (spelling self.now) }
+        ensures within { result ≤ 1029 }
+        ensures fits { Fits self.now }
+    {
+        match self {
+            Eid::Null => 3,
+            Eid::Dtn(text) => {
+                let len = text.bytes().len() as u64;
+                2 + head_size(3, len) + len
+            }
+            Eid::Ipn { node, service } => 3 + head_size(0, *node) + head_size(0, *service),
+        }
+    }
+}
