@@ -1,0 +1,9 @@
+//! The primary block of a bundle (RFC 9171, section 4.3.1).
+#![tactic(auto)]
+
+mod feeding;
+mod items;
+mod parts;
+mod primary;
+
+pub use primary::{Piece, Primary};
