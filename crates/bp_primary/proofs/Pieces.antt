@@ -2,7 +2,7 @@
 use Rattle.std.proofs.Common.{◌≡◌, ℕ, ◌+◌, ◌<◌, ◌≤◌, List, ◌++◌, length, refl, ap, arith, append_assoc, length-append}
 use Rattle.std.proofs.lemmas.Bool.{lt-ltb}
 use Rattle.cbor_profile.specs.Head.{head_spelling}
-use Rattle.cbor_profile.specs.Put.{uint, byte_string, array_head}
+use Rattle.cbor_profile.specs.Put.{byte_string}
 use Rattle.bp_crc.specs.Check.{check_bytes}
 use Rattle.bp_crc.specs.declared.kind.CheckKind.{CheckKind}
 use Rattle.bp_crc.specs.declared.kind.CheckKind.TheVariants.{None, Crc16, Crc32c}

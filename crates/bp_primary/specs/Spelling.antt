@@ -4,7 +4,6 @@ use Rattle.std.specs.Option.{ForSome}
 use Rattle.cbor_profile.specs.Put.{uint, array_head}
 use Rattle.bp_crc.specs.Check.{check_bytes}
 use Rattle.bp_eid.specs.EndpointId as ids
-use Rattle.bp_primary.specs.declared.primary.Piece.{Piece}
 use Rattle.bp_primary.specs.declared.primary.Primary.{Primary}
 use Rattle.bp_primary.specs.Items.{fragment_items, fragment_count, check_type, check_item, check_count, zeros}
 

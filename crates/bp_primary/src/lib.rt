@@ -3,7 +3,11 @@
 
 mod feeding;
 mod items;
+pub mod laws;
 mod parts;
 mod primary;
 
 pub use primary::{Piece, Primary};
+
+#[cfg(test)]
+mod tests;

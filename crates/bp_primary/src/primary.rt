@@ -7,7 +7,9 @@ ghost use Rattle.bp_primary.specs.Flags.{is_fragment};
 ghost use Rattle.bp_primary.specs.Items.{zeros};
 
 use crate::feeding::size_of;
-use crate::items::{check_size, feed_check, feed_fragment, fragment_size, put_check, put_fragment, zeros};
+use crate::items::{
+    check_size, feed_check, feed_fragment, fragment_size, put_check, put_fragment, zeros,
+};
 use bp_crc::{CheckKind, Crc};
 use bp_eid::Eid;
 use cbor_profile::{Bytes, Feed, NoMemory};

@@ -1,4 +1,4 @@
-use Rattle.std.proofs.Common.{[], refl, rules, arith}
+use Rattle.std.proofs.Common.{[], arith}
 use Rattle.bp_primary.proofs.Pieces.{length-spelling}
 use Rattle.bp_primary.proofs.primary.Primary.check.Goals as goal
 

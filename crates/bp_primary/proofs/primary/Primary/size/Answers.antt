@@ -1,7 +1,5 @@
-use Rattle.std.proofs.Common.{◌≡◌, ◌+◌, ℕ, length, arith, length-append}
-use Rattle.cbor_profile.specs.Head.{head_spelling}
+use Rattle.std.proofs.Common.{◌+◌, arith, length-append}
 use Rattle.cbor_profile.specs.Put.{uint, array_head}
-use Rattle.bp_crc.specs.declared.kind.CheckKind.{CheckKind}
 use Rattle.bp_primary.specs.Items.{fragment_count, check_count, check_type}
 use Rattle.bp_primary.specs.Spelling.{array_with, front, nodes, times}
 use Rattle.bp_primary.proofs.Pieces.{length-spelling, small_head, few_items, small_type}
