@@ -12,14 +12,16 @@ use bp_crc::{CheckKind, Crc};
 use cbor_profile::{Bytes, Feed, NoMemory, put_array, put_bytes, put_uint};
 use std::alloc::Global;
 
-/// A canonical block.
+/// A canonical block (RFC 9171, section 4.3.2).
 #[derive(Debug, Drop)]
 pub struct Block {
-    /// The block type code: 1 is a payload.
+    /// The block type code (section 9.1): 1 is the payload.
     pub kind: u64,
+    /// The number by which other blocks name it (section 4.1): 1 is the payload.
     pub number: u64,
-    /// The block processing control flags.
+    /// The block processing control flags (section 4.2.4).
     pub flags: u64,
+    /// The check that the block carries.
     pub crc: CheckKind,
     /// The block-type-specific data, without the head of its byte string.
     pub body: Bytes,

@@ -15,27 +15,30 @@ use bp_eid::Eid;
 use cbor_profile::{Bytes, Feed, NoMemory};
 use std::alloc::Global;
 
-/// The place of a fragment's payload: how many bytes stand before it, and how many there are in all.
+/// Where the payload of a fragment stands in the whole payload, in bytes.
 #[derive(Clone, Copy, Debug, PartialEq, Eq)]
 pub struct Piece {
+    /// How many bytes stand before it.
     pub offset: u64,
+    /// How many bytes the whole payload has.
     pub total: u64,
 }
 
-/// A primary block.
+/// A primary block (RFC 9171, section 4.3.1). It says where a fragment stands exactly where flag 0x1 is set.
 #[derive(Debug, Drop)]
 pub struct Primary {
-    /// The bundle processing control flags.
+    /// The bundle processing control flags (section 4.2.3).
     pub flags: u64,
+    /// The check that the block carries.
     pub crc: CheckKind,
     pub destination: Eid,
     pub source: Eid,
     pub report_to: Eid,
-    /// The creation time in milliseconds since 2000.
+    /// The creation time: milliseconds since the start of 2000, or 0 where it isn't known (section 4.2.7).
     pub created: u64,
     /// The sequence number of the creation timestamp.
     pub sequence: u64,
-    /// In milliseconds.
+    /// How long the bundle is of use after its creation, in milliseconds.
     pub lifetime: u64,
     pub fragment: Option<Piece>,
     pub ghost fragmented: { is_some fragment ≡ is_fragment flags },
@@ -106,6 +109,7 @@ impl Primary {
             → F.stands_for into.new (fed ++ spelling self.now) }
         ensures fixed { F.fixed into.new ≡ F.fixed into.old }
     {
+        // Read so that it is known to be a number of 64 bits.
         let _most = F::MOST;
         match self.crc {
             CheckKind::None => self.feed_with(&[], into),
