@@ -8,7 +8,8 @@ use Rattle.cbor_profile.specs.Put.{uint, byte_string, array_head}
 use Rattle.bp_crc.specs.declared.kind.CheckKind.{CheckKind}
 use Rattle.bp_crc.specs.declared.kind.CheckKind.TheVariants.{None, Crc16, Crc32c}
 use Rattle.bp_blocks.specs.declared.block.Block.{Block}
-use Rattle.bp_blocks.specs.Spelling.{IsBlock, array_with, spelling, check_count, check_type}
+use Rattle.bp_crc.specs.Item.{check_count, check_type}
+use Rattle.bp_blocks.specs.Spelling.{IsBlock, array_with, spelling}
 
 -- the law of heads
 abbrev pub HeadsHaveOneSpelling : Type 0

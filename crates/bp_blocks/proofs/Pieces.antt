@@ -8,7 +8,8 @@ use Rattle.bp_crc.specs.declared.kind.CheckKind.{CheckKind}
 use Rattle.bp_crc.specs.declared.kind.CheckKind.TheVariants.{None, Crc16, Crc32c}
 use Rattle.bp_blocks.specs.declared.block.Block.{Block}
 use Rattle.bp_blocks.specs.Feeds.{Feeds}
-use Rattle.bp_blocks.specs.Spelling.{IsBlock, array_with, spelling, zeros, check_item, check_count, check_type}
+use Rattle.bp_crc.specs.Item.{zeros, check_item, check_count, check_type}
+use Rattle.bp_blocks.specs.Spelling.{IsBlock, array_with, spelling}
 
 pub feeds_both : {S : Type 0} (stands : S → List ℕ → Type 0) (most : ℕ) {s t u : S} {p q : List ℕ} → Feeds stands most s t p → Feeds stands most t u q → Feeds stands most s u (p ++ q)
 feeds_both stands most {p} {q} first second fed holds room =

@@ -2,12 +2,11 @@
 
 ghost use Rattle.std.specs.Prelude.{◌≡◌, ◌<◌, ◌≤◌, ◌+◌, ◌^◌, ◌++◌, ℕ, List, length, take, OnOk, OnErr, IfOk};
 ghost use Rattle.bp_crc.specs.Check.{IsWidth, check};
+ghost use Rattle.bp_crc.specs.Item.{zeros};
 ghost use Rattle.bp_blocks.specs.Feeds.{Feeds};
 
 use crate::counted::Counted;
-use crate::feeding::{
-    check_count, check_type, feed_check, feed_head, feed_string, put_check, zeros,
-};
+use crate::feeding::{feed_head, feed_string};
 use bp_crc::{CheckKind, Crc};
 use cbor_profile::{Bytes, Feed, NoMemory, put_array, put_bytes, put_uint};
 use std::alloc::Global;
@@ -28,7 +27,7 @@ pub struct Block {
 }
 
 impl Block {
-    ghost use Rattle.bp_blocks.specs.Spelling.{IsBlock, array_with, spelling, zeros};
+    ghost use Rattle.bp_blocks.specs.Spelling.{IsBlock, array_with, spelling};
 
     /// Feeds the array with these bytes as its check.
     #[tactic(auto, unfolding(crate::specs::Spelling::array_with, cbor_profile::specs::Put::uint, cbor_profile::specs::Put::array_head))]
@@ -37,13 +36,13 @@ impl Block {
         ensures fixed { F.fixed into.new ≡ F.fixed into.old }
         ensures fits { IsBlock self.now }
     {
-        feed_head(into, 4, 5 + check_count(self.crc));
+        feed_head(into, 4, 5 + self.crc.count());
         feed_head(into, 0, self.kind);
         feed_head(into, 0, self.number);
         feed_head(into, 0, self.flags);
-        feed_head(into, 0, check_type(self.crc));
+        feed_head(into, 0, self.crc.number());
         feed_string(into, self.body.as_slice());
-        feed_check(into, self.crc, check);
+        self.crc.feed(check, into);
     }
 
     /// The check over the array whose check bytes are zero.
@@ -53,7 +52,7 @@ impl Block {
         ensures within { result < 2 ^ BITS }
     {
         let mut crc = Crc::<BITS>::new();
-        self.feed_with(zeros(self.crc), &mut crc);
+        self.feed_with(self.crc.zeros(), &mut crc);
         crc.finish()
     }
 
@@ -63,13 +62,13 @@ impl Block {
         ensures ok { OnOk result (out.new ≡ out.old ++ array_with self.now check.now) }
         ensures err { OnErr result (take (length out.old) out.new ≡ out.old) }
     {
-        put_array(out, 5 + check_count(self.crc))?;
+        put_array(out, 5 + self.crc.count())?;
         put_uint(out, self.kind)?;
         put_uint(out, self.number)?;
         put_uint(out, self.flags)?;
-        put_uint(out, check_type(self.crc))?;
+        put_uint(out, self.crc.number())?;
         put_bytes(out, self.body.as_slice())?;
-        put_check(out, self.crc, check)
+        self.crc.put(check, out)
     }
 
     /// Appends the spelling, or a part of it for want of memory.
@@ -110,7 +109,7 @@ impl Block {
         ensures fits { IsBlock self.now }
     {
         let mut counted = Counted { bytes: 0 };
-        self.feed_with(zeros(self.crc), &mut counted);
+        self.feed_with(self.crc.zeros(), &mut counted);
         counted.bytes
     }
 

@@ -16,7 +16,8 @@ use Rattle.bp_eid.specs.EndpointId as ids
 use Rattle.bp_primary.specs.declared.primary.Piece.{Piece}
 use Rattle.bp_primary.specs.declared.primary.Primary.{Primary}
 use Rattle.bp_primary.specs.Flags.{is_fragment}
-use Rattle.bp_primary.specs.Items.{fragment_items, fragment_count, check_count, check_type}
+use Rattle.bp_crc.specs.Item.{check_count, check_type}
+use Rattle.bp_primary.specs.Fragment.{fragment_items, fragment_count}
 use Rattle.bp_primary.specs.Spelling.{IsPrimary, array_with, front, nodes, times, spelling}
 use Rattle.bp_primary.proofs.Pieces.{few_items, small_type}
 

@@ -11,7 +11,8 @@ use Rattle.std.specs.declared.option.Option.TheVariants as options
 use Rattle.bp_primary.specs.declared.primary.Piece.{Piece}
 use Rattle.bp_primary.specs.declared.primary.Primary.{Primary}
 use Rattle.bp_primary.specs.Feeds.{Feeds}
-use Rattle.bp_primary.specs.Items.{check_item, zeros, fragment_count, check_count, check_type}
+use Rattle.bp_crc.specs.Item.{check_item, zeros, check_count, check_type}
+use Rattle.bp_primary.specs.Fragment.{fragment_count}
 use Rattle.bp_primary.specs.Spelling.{array_with, spelling}
 
 pub feeds_both : {S : Type 0} (stands : S → List ℕ → Type 0) (most : ℕ) {s t u : S} {p q : List ℕ} → Feeds stands most s t p → Feeds stands most t u q → Feeds stands most s u (p ++ q)

@@ -1,4 +1,4 @@
 pub mod Feeds
 pub mod Flags
-pub mod Items
+pub mod Fragment
 pub mod Spelling

@@ -3,9 +3,10 @@ use Rattle.std.specs.Prelude.{ℕ, ◌+◌, ◌^◌, ◌<◌, List, ◌++◌}
 use Rattle.std.specs.Option.{ForSome}
 use Rattle.cbor_profile.specs.Put.{uint, array_head}
 use Rattle.bp_crc.specs.Check.{check_bytes}
+use Rattle.bp_crc.specs.Item.{check_type, check_count, check_item, zeros}
 use Rattle.bp_eid.specs.EndpointId as ids
 use Rattle.bp_primary.specs.declared.primary.Primary.{Primary}
-use Rattle.bp_primary.specs.Items.{fragment_items, fragment_count, check_type, check_item, check_count, zeros}
+use Rattle.bp_primary.specs.Fragment.{fragment_items, fragment_count}
 
 -- the head of the array, version 7, flags, check type
 unfoldable pub front : Primary → List ℕ

@@ -2,7 +2,7 @@
 
 ghost use Rattle.std.specs.Prelude.{◌≡◌, ◌<◌, ◌≤◌, ◌^◌, length};
 ghost use Rattle.cbor_profile.specs.Head.{head_spelling};
-ghost use Rattle.cbor_profile.specs.Put.{byte_string, uint};
+ghost use Rattle.cbor_profile.specs.Put.{uint};
 ghost use Rattle.bp_primary.specs.Feeds.{Feeds};
 
 use cbor_profile::{Feed, Head, head_bytes};
@@ -16,16 +16,6 @@ pub(crate) fn feed_head<F: Feed>(into: &mut F, major: u8, value: u64)
 {
     let head = head_bytes(Head { major, value });
     into.feed(head.as_slice());
-}
-
-/// A byte string.
-#[tactic(auto, unfolding(cbor_profile::specs::Put::byte_string))]
-pub(crate) fn feed_string<F: Feed>(into: &mut F, content: &[u8])
-    ensures stands { Feeds F.stands_for F.MOST into.old into.new (byte_string content.now) }
-    ensures fixed { F.fixed into.new ≡ F.fixed into.old }
-{
-    feed_head(into, 2, content.len() as u64);
-    into.feed(content);
 }
 
 /// How many bytes an unsigned number has.

@@ -2,7 +2,7 @@
 #![tactic(auto)]
 
 mod feeding;
-mod items;
+mod fragment;
 pub mod laws;
 mod parts;
 mod primary;

@@ -2,11 +2,12 @@
 
 ghost use Rattle.std.specs.Prelude.{◌≡◌, ◌+◌, ◌++◌, length, take, OnOk, OnErr};
 ghost use Rattle.bp_primary.specs.Feeds.{Feeds};
-ghost use Rattle.bp_primary.specs.Items.{fragment_count, check_count};
+ghost use Rattle.bp_crc.specs.Item.{check_count};
+ghost use Rattle.bp_primary.specs.Fragment.{fragment_count};
 ghost use Rattle.bp_primary.specs.Spelling.{front, nodes, times};
 
 use crate::feeding::feed_head;
-use crate::items::{check_count, check_type, fragment_count};
+use crate::fragment::fragment_count;
 use crate::primary::Primary;
 use cbor_profile::{Bytes, Feed, NoMemory, put_array, put_uint};
 
@@ -18,7 +19,7 @@ impl Primary {
     fn count(&self) -> u64
         ensures { result ≡ 8 + fragment_count self.now.fragment + check_count self.now.crc }
     {
-        8 + fragment_count(self.fragment) + check_count(self.crc)
+        8 + fragment_count(self.fragment) + self.crc.count()
     }
 
     /// Feeds the head of the array, the version, the flags and the check type.
@@ -29,7 +30,7 @@ impl Primary {
         feed_head(into, 4, self.count());
         feed_head(into, 0, VERSION);
         feed_head(into, 0, self.flags);
-        feed_head(into, 0, check_type(self.crc));
+        feed_head(into, 0, self.crc.number());
     }
 
     /// Appends the head of the array, the version, the flags and the check type, or a part for want of memory.
@@ -41,7 +42,7 @@ impl Primary {
         put_array(out, self.count())?;
         put_uint(out, VERSION)?;
         put_uint(out, self.flags)?;
-        put_uint(out, check_type(self.crc))
+        put_uint(out, self.crc.number())
     }
 
     /// Feeds the ids of the destination, the source and the node to report to.

@@ -2,14 +2,12 @@
 
 ghost use Rattle.std.specs.Prelude.{◌≡◌, ◌+◌, ◌%◌, ◌^◌, ◌<◌, ◌≤◌, ◌↔◌, ◌++◌, ℕ, List, length, take, is_some, IsSome, IsTrue, IfOk, OnOk, OnErr};
 ghost use Rattle.bp_crc.specs.Check.{IsWidth, check};
+ghost use Rattle.bp_crc.specs.Item.{zeros};
 ghost use Rattle.bp_primary.specs.Feeds.{Feeds};
 ghost use Rattle.bp_primary.specs.Flags.{is_fragment};
-ghost use Rattle.bp_primary.specs.Items.{zeros};
 
 use crate::feeding::size_of;
-use crate::items::{
-    check_size, feed_check, feed_fragment, fragment_size, put_check, put_fragment, zeros,
-};
+use crate::fragment::{feed_fragment, fragment_size, put_fragment};
 use bp_crc::{CheckKind, Crc};
 use bp_eid::Eid;
 use cbor_profile::{Bytes, Feed, NoMemory};
@@ -64,7 +62,7 @@ impl Primary {
         self.feed_nodes(into);
         self.feed_times(into);
         feed_fragment(into, self.fragment);
-        feed_check(into, self.crc, check);
+        self.crc.feed(check, into);
     }
 
     /// Appends the array with these bytes as its check, or a part of it for want of memory.
@@ -77,7 +75,7 @@ impl Primary {
         self.put_nodes(out)?;
         self.put_times(out)?;
         put_fragment(out, self.fragment)?;
-        put_check(out, self.crc, check)
+        self.crc.put(check, out)
     }
 
     /// How many bytes the spelling has. Takes no memory.
@@ -88,7 +86,7 @@ impl Primary {
     {
         let nodes = self.destination.size() + self.source.size() + self.report_to.size();
         let times = size_of(self.created) + size_of(self.sequence) + size_of(self.lifetime);
-        let last = fragment_size(self.fragment) + check_size(self.crc);
+        let last = fragment_size(self.fragment) + self.crc.size();
         4 + size_of(self.flags) + nodes + times + last
     }
 
@@ -99,7 +97,7 @@ impl Primary {
         ensures within { result < 2 ^ BITS }
     {
         let mut crc = Crc::<BITS>::new();
-        self.feed_with(zeros(self.crc), &mut crc);
+        self.feed_with(self.crc.zeros(), &mut crc);
         crc.finish()
     }
 

@@ -2,7 +2,7 @@ use Rattle.std.proofs.Common.{◌≡◌, ◌^◌, ◌<◌, length, sym, ap, ◌�
 use Rattle.std.specs.Int.{w16, w32, to_be_bytes}
 use Rattle.bp_crc.specs.Check.{check}
 use Rattle.bp_crc.specs.declared.kind.CheckKind.TheVariants.{None, Crc16, Crc32c}
-use Rattle.bp_primary.specs.Items.{zeros}
+use Rattle.bp_crc.specs.Item.{zeros}
 use Rattle.bp_primary.specs.Spelling.{array_with, spelling}
 use Rattle.bp_primary.proofs.Pieces.{spelling-at}
 use Rattle.bp_primary.proofs.primary.Primary.feed_into.Goals as goal

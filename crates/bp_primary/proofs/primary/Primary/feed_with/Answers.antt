@@ -11,4 +11,4 @@ returns-clause-stands g c =
     (feeds_both stands most
     (feeds_both stands most (feeds_both stands most c.feed_front.ensures.stands c.feed_nodes.ensures.stands) c.feed_times.ensures.stands)
     c.feed_fragment.ensures.stands)
-    c.feed_check.ensures.stands
+    c.feed.ensures.stands

@@ -1,6 +1,7 @@
 use Rattle.std.proofs.Common.{◌+◌, arith, length-append}
 use Rattle.cbor_profile.specs.Put.{uint, array_head}
-use Rattle.bp_primary.specs.Items.{fragment_count, check_count, check_type}
+use Rattle.bp_crc.specs.Item.{check_count, check_type}
+use Rattle.bp_primary.specs.Fragment.{fragment_count}
 use Rattle.bp_primary.specs.Spelling.{array_with, front, nodes, times}
 use Rattle.bp_primary.proofs.Pieces.{length-spelling, small_head, few_items, small_type}
 use Rattle.bp_primary.proofs.primary.Primary.size.Goals as goal
