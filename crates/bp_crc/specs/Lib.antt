@@ -1,4 +1,5 @@
 pub mod Check
 pub mod Division
+pub mod Item
 pub mod Polynomial
 pub mod Table

@@ -2,6 +2,7 @@
 //! over bits (RFC 9171, section 4.2.1).
 #![tactic(auto)]
 
+mod item;
 mod kind;
 mod laws;
 mod tables;

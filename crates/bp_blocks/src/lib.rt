@@ -1,0 +1,14 @@
+//! Canonical blocks of a bundle, and the bodies of the three extension blocks that RFC 9171 defines.
+#![tactic(auto)]
+
+mod block;
+mod bodies;
+mod counted;
+mod feeding;
+pub mod laws;
+
+pub use block::Block;
+pub use bodies::{BodyFault, Hops, age, hop_count, previous_node, put_age, put_hops};
+
+#[cfg(test)]
+mod tests;

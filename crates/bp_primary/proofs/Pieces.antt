@@ -1,0 +1,60 @@
+-- Pieces fed one after another, and how long they are.
+use Rattle.std.proofs.Common.{◌≡◌, ℕ, ◌+◌, ◌<◌, ◌≤◌, List, ◌++◌, length, refl, ap, arith, append_assoc, length-append}
+use Rattle.std.proofs.lemmas.Bool.{lt-ltb}
+use Rattle.cbor_profile.specs.Head.{head_spelling}
+use Rattle.cbor_profile.specs.Put.{byte_string}
+use Rattle.bp_crc.specs.Check.{check_bytes}
+use Rattle.bp_crc.specs.declared.kind.CheckKind.{CheckKind}
+use Rattle.bp_crc.specs.declared.kind.CheckKind.TheVariants.{None, Crc16, Crc32c}
+use Rattle.std.specs.declared.option.Option.{Option}
+use Rattle.std.specs.declared.option.Option.TheVariants as options
+use Rattle.bp_primary.specs.declared.primary.Piece.{Piece}
+use Rattle.bp_primary.specs.declared.primary.Primary.{Primary}
+use Rattle.bp_primary.specs.Feeds.{Feeds}
+use Rattle.bp_crc.specs.Item.{check_item, zeros, check_count, check_type}
+use Rattle.bp_primary.specs.Fragment.{fragment_count}
+use Rattle.bp_primary.specs.Spelling.{array_with, spelling}
+
+pub feeds_both : {S : Type 0} (stands : S → List ℕ → Type 0) (most : ℕ) {s t u : S} {p q : List ℕ} → Feeds stands most s t p → Feeds stands most t u q → Feeds stands most s u (p ++ q)
+feeds_both stands most {p} {q} first second fed holds room =
+    let all : length (p ++ q) ≡ length p + length q = length-append p q in
+    let front : length (fed ++ p) ≡ length fed + length p = length-append fed p in
+    rw (← append_assoc) (second (fed ++ p) (first fed holds (omega arith)) (omega arith))
+
+-- the item of a check is as long as that of zeros in its place
+same_item : (kind : CheckKind) (bytes : List ℕ) → length (check_item kind (check_bytes kind bytes)) ≡ length (check_item kind (zeros kind))
+unfolding byte_string
+same_item None bytes = refl
+same_item Crc16 bytes = simp length-append
+same_item Crc32c bytes = simp length-append
+
+pub length-spelling : (primary : Primary) → length (spelling primary) ≡ length (array_with primary (zeros primary.crc))
+unfolding spelling array_with
+length-spelling primary = let item = same_item primary.crc (array_with primary (zeros primary.crc)) in simp length-append (omega (arith, item))
+
+-- a small argument stands in the first byte
+pub small_head : (major argument : ℕ) → argument < 24 → length (head_spelling major argument) ≡ 1
+small_head major argument small = rw (lt-ltb _ _ small) refl
+
+-- the spelling of a block with this kind of check
+pub spelling-at : (primary : Primary) (kind : CheckKind) → primary.crc ≡ kind → spelling primary ≡ array_with primary (check_bytes kind (array_with primary (zeros primary.crc)))
+unfolding spelling
+spelling-at primary kind is = ap (λ (k : CheckKind). array_with primary (check_bytes k (array_with primary (zeros primary.crc)))) is
+
+few_fragment_items : (fragment : Option Piece) → fragment_count fragment ≤ 2
+few_fragment_items options.None = omega arith
+few_fragment_items (options.Some piece) = omega arith
+
+few_check_items : (kind : CheckKind) → check_count kind ≤ 1
+few_check_items None = omega arith
+few_check_items Crc16 = omega arith
+few_check_items Crc32c = omega arith
+
+-- small numbers of items, and small check types
+pub few_items : (primary : Primary) → 8 + fragment_count primary.fragment + check_count primary.crc < 24
+few_items primary = let fragment = few_fragment_items primary.fragment in let check = few_check_items primary.crc in omega arith
+
+pub small_type : (kind : CheckKind) → check_type kind < 24
+small_type None = omega arith
+small_type Crc16 = omega arith
+small_type Crc32c = omega arith

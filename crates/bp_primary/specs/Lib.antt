@@ -1,0 +1,4 @@
+pub mod Feeds
+pub mod Flags
+pub mod Fragment
+pub mod Spelling
