@@ -16,8 +16,8 @@ pub trait Source {
     /// No read of it fails, now or later.
     ghost steady: { Self → Type 0 };
 
-    /// Reads bytes into the front of the buffer, and answers how many. It reads none into a buffer that has room only
-    /// at the end.
+    /// Reads bytes into the front of the buffer, and answers how many. For a buffer that isn't empty it answers 0 only
+    /// where nothing is left.
     fn read(&mut self, buf: &mut [u8]) -> Result<usize, Failed>
         ensures within { IfOk result (λ n. n ≤ length buf.old) }
         ensures moved { IfOk result (λ n. Taken (left self.old) (take n buf.new) (left self.new)) }

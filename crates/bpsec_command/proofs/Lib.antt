@@ -1,3 +1,4 @@
+mod Parts
 mod FirstForm
 mod Responses
 mod Statuses

@@ -24,11 +24,11 @@ line text = text ++ 10 ∷ []
 abbrev pub usage : ℕ → Answer
 usage word = record { status = Usage word; out = []; report = line (codes "usage word=" ++ decimal word) }
 
-abbrev pub counted : ℕ → ℕ → List ℕ
-counted bytes blocks = line (codes "ok bytes=" ++ decimal bytes ++ codes " blocks=" ++ decimal blocks)
+abbrev pub ok_line : ℕ → ℕ → List ℕ
+ok_line bytes blocks = line (codes "ok bytes=" ++ decimal bytes ++ codes " blocks=" ++ decimal blocks)
 
 abbrev pub checked : List ℕ → Answer
-checked input = record { status = Done; out = counted (length input) 1; report = [] }
+checked input = record { status = Done; out = ok_line (length input) 1; report = [] }
 
 abbrev pub unbuilt : Answer
 unbuilt = record { status = Unbuilt; out = []; report = line (codes "unbuilt") }

@@ -1,6 +1,6 @@
 -- What became of an answer: written whole, or broken off in the output or in the report.
 use Rattle.std.specs.Prelude.{◌≡◌, ℕ, ◌<◌, ◌⊎◌, List, length, take, Option}
-use Rattle.bp_outside.specs.Outside.{Appended}
+use Rattle.bp_outside.specs.Outside.{Appended, Rose}
 use Rattle.bpsec_command.specs.declared.answer.Answer.{Answer}
 use Rattle.bpsec_command.specs.Answer.{Given, IsAnswer, input_fault, memory_fault}
 use Rattle.bpsec_command.specs.Words.{ReadsInput}
@@ -38,9 +38,12 @@ pub record BreaksOffReport (answer : Answer) (written : Written) : Type 0 where
 abbrev pub Takes : (ℕ → Type 0) → List ℕ → Type 0
 Takes takes due = 0 < length due → takes (length due)
 
--- What may be due: the answer, or the line of a read fault whose count rose, or that no memory was left.
-abbrev pub IsDue : Given → Type 0 → Answer → Type 0
-IsDue given rose answer = IsAnswer given answer ⊎ ((ReadsInput given.words × rose × (answer ≡ input_fault)) ⊎ (answer ≡ memory_fault))
+-- What may be due, with the input's count of faults before and now: the answer, or that no memory was left, where no read
+-- failed; or the line of a read fault where the count rose.
+abbrev pub IsDue : Given → ℕ → ℕ → Answer → Type 0
+IsDue given before now answer =
+    ((now ≡ before) × (IsAnswer given answer ⊎ (answer ≡ memory_fault)))
+    ⊎ (Rose before now × ReadsInput given.words × (answer ≡ input_fault))
 
 -- ---- statuses
 

@@ -36,7 +36,7 @@ primary_block b =
     array_head 8 ++ uint 7 ++ uint b.flags ++ uint 0 ++ ipn b.destination ++ ipn b.source ++ ipn b.report_to
     ++ timestamp b.created b.sequence ++ uint b.lifetime
 
--- section 4.3.2 and 4.3.3: block type 1, block number 1, check type 0
+-- sections 4.1 and 4.3.2: block type 1, block number 1, check type 0
 abbrev pub payload_block : Bundle → List ℕ
 payload_block b = array_head 5 ++ uint 1 ++ uint 1 ++ uint b.payload_flags ++ uint 0 ++ byte_string b.payload
 

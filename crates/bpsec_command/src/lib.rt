@@ -1,5 +1,5 @@
-//! The program, from its words to its status: `run` reads the words, fetches the files that they name, reads the input,
-//! does the job, and delivers the answer. Each command is a variant of `Command`, a job of its own, and a case of the
+//! The program, from its words to its status: `run` reads the words, reads the input, does the job, and delivers the
+//! answer. No command names a file yet. Each command is a variant of `Command`, a job of its own, and a case of the
 //! definition of the answer.
 #![tactic(auto)]
 

@@ -21,8 +21,7 @@ use std::alloc::Global;
 
 /// Runs the program: from the words after its name, the input and the files, to what it writes and its status.
 ///
-/// `files` and `input` are what the shelf and the source tell. Where one tells nothing, the clauses on its bytes speak
-/// of some bytes, and those on causes stand.
+/// Where the source tells no bytes, the clauses on the answer speak of some input; those on causes stand as they are.
 pub fn run<S: Source, K: Shelf, W: Sink, R: Sink>(
     alloc: Global,
     words: &[String],
@@ -50,7 +49,7 @@ pub fn run<S: Source, K: Shelf, W: Sink, R: Sink>(
         × BreaksOffOut answer (record { out_before = W.written out.old; out_now = W.written out.new; report_before = R.written report.old; report_now = R.written report.new }) }
     ensures report_fault { result ≡ WriteFault Report → Rose (R.faults report.old) (R.faults report.new) }
     ensures report_broken_off { result ≡ WriteFault Report → (answer : Answer)
-        × IsDue (record { words = map string_bytes words.now; input = S.left input.old }) (Rose (S.faults input.old) (S.faults input.new)) answer
+        × IsDue (record { words = map string_bytes words.now; input = S.left input.old }) (S.faults input.old) (S.faults input.new) answer
         × BreaksOffReport answer (record { out_before = W.written out.old; out_now = W.written out.new; report_before = R.written report.old; report_now = R.written report.new }) }
 
     // Only what is done writes to the output.
@@ -73,7 +72,7 @@ pub fn run<S: Source, K: Shelf, W: Sink, R: Sink>(
     ensures quiet_report { (result ≡ WriteFault Report → ⊥) → R.faults report.new ≡ R.faults report.old }
 
     // No fault is told where nothing fails and all that is due is taken.
-    ensures complete { S.steady input.old → K.steady shelf.old
+    ensures complete { S.steady input.old
         → ((answer : Answer) → IsAnswer (record { words = map string_bytes words.now; input = S.left input.old }) answer
         → Takes (W.takes out.old) answer.out × Takes (R.takes report.old) answer.report)
         → Takes (R.takes report.old) memory_fault.report → HasNoFault result }

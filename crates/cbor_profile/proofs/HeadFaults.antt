@@ -1,13 +1,12 @@
 -- Each answer about a head but want of bytes stands, whatever follows; and a head is bad at its first byte.
-use Rattle.std.proofs.Common.{◌≡◌, ℕ, ◌+◌, ◌/◌, ◌%◌, ◌<◌, ◌≤◌, ◌^◌, ◌⊎◌, ◌||◌, ◌&&◌, inl, inr, Bool, true, false, List, [], ◌∷◌, ◌++◌, length, take, refl, sym, ◌∙◌, ap, subst, arith}
+use Rattle.std.proofs.Common.{◌≡◌, ℕ, ◌+◌, ◌/◌, ◌%◌, ◌<◌, ◌≤◌, ◌⊎◌, ◌||◌, ◌&&◌, inl, inr, false, List, [], ◌∷◌, ◌++◌, length, refl, sym, ◌∙◌, ap, subst, arith}
 use Rattle.std.specs.Prelude.{◌==◌, nat_le}
 use Rattle.std.specs.Int.{w8, w16, w32, w64, from_be_bytes, to_be_bytes}
 use Rattle.std.proofs.lemmas.Bool.{cases_Bool, cases_lt, le-ltb, lt-ltb, leb-false, cases_eq, or_parts}
 use Rattle.std.proofs.lemmas.List.{length-append, take-append-le}
-use Rattle.cbor_profile.specs.declared.head.HeadRead.{HeadRead}
 use Rattle.cbor_profile.specs.declared.head.Head.{Head}
 use Rattle.cbor_profile.specs.declared.head.HeadRead.TheVariants.{Whole, Short, NotShortest, Bad}
-use Rattle.cbor_profile.specs.Head.{first_byte, head_spelling, spelling, IsHead, following, argument, least, is_bad, read_head}
+use Rattle.cbor_profile.specs.Head.{first_byte, spelling, IsHead, following, argument, least, is_bad, read_head}
 use Rattle.cbor_profile.proofs.Heads.{read-spelling, not_bad}
 
 -- the argument is the same with more bytes behind it

@@ -144,7 +144,7 @@ spells major low rest lt fits =
     ]
 
 -- a test that did not answer
-passed : (b : Bool) (x y z : HeadRead) → cond b x y ≡ z → (x ≡ z → ⊥) → (b ≡ false) × (y ≡ z)
+pub passed : (b : Bool) (x y z : HeadRead) → cond b x y ≡ z → (x ≡ z → ⊥) → (b ≡ false) × (y ≡ z)
 passed true x y z e differs = absurd (differs e)
 passed false x y z e differs = (refl, e)
 

@@ -3,3 +3,4 @@ pub mod Heads
 mod HeadFaults
 pub mod Items
 pub mod ItemGrammar
+pub mod ItemFaults

@@ -1,4 +1,4 @@
--- The spellings that are written: RFC 8949, section 3.1, with the shortest heads.
+-- The spellings that are written: RFC 8949, sections 3.1 and 3.3, with the shortest heads.
 use Rattle.std.specs.Prelude.{ℕ, ℤ, pos, negsuc, Bool, if◌then◌else◌, List, ◌++◌, length}
 use Rattle.cbor_profile.specs.Head.{head_spelling}
 

@@ -76,7 +76,7 @@ impl Bytes {
         self.content.truncate(len);
     }
 
-    /// Makes room for `more` bytes, so that the next `more` bytes are appended without a further growth.
+    /// Asks for room for `more` bytes at once. The bytes stay as they are.
     pub fn reserve(&mut self, more: usize) -> Result<(), NoMemory>
         ensures { self.new ≡ self.old }
     {

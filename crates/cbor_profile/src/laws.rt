@@ -2,9 +2,10 @@
 
 ghost use Rattle.std.specs.Prelude.{◌≡◌, ◌<◌, ◌≤◌, ◌^◌, ◌∷◌, ◌++◌, ◌↔◌, ℕ, List, length, take, slice_index};
 ghost use Rattle.cbor_profile.specs.Head.{spelling, IsHead, read_head};
-ghost use Rattle.cbor_profile.specs.Item.{IsItem, most_levels};
+ghost use Rattle.cbor_profile.specs.Item.{IsItem, most_levels, read_item};
 ghost use Rattle.cbor_profile.specs.declared.head.Head.{Head};
 ghost use Rattle.cbor_profile.specs.declared.head.HeadRead.TheVariants.{Whole, Short, Bad};
+ghost use Rattle.cbor_profile.specs.declared.item.ItemRead.TheVariants as items;
 ghost use Rattle.cbor_profile.specs.declared.TheConstants.{BUNDLE_LIMIT};
 
 /// The spelling of a bundle has at most 16 MiB.
@@ -39,4 +40,9 @@ pub fn heads_are_judged_from_the_left()
 pub fn heads_are_bad_at_their_first_byte()
     ensures { (first : ℕ) (rest : List ℕ) → first < 256
         → (read_head (first ∷ rest) ≡ Bad) ↔ ((head : Head) (others : List ℕ) → IsHead head → spelling head ≡ first ∷ others → ⊥) }
+{}
+
+/// Each answer about the item at the front stands, whatever bytes follow; only want of bytes may change.
+pub fn items_are_judged_from_the_left()
+    ensures { (bytes more : List ℕ) → (read_item bytes ≡ items.Short → ⊥) → read_item (bytes ++ more) ≡ read_item bytes }
 {}

@@ -1,4 +1,4 @@
-//! Writing spellings at the end of a byte string (RFC 8949, section 3.1). Each call appends the one spelling, or leaves
+//! Writing spellings at the end of a byte string (RFC 8949, sections 3.1 and 3.3). Each call appends the one spelling, or leaves
 //! the byte string as it was for want of memory.
 
 ghost use Rattle.std.specs.Prelude.{◌≡◌, ◌<◌, ◌^◌, ◌++◌, length, OnOk, OnErr};

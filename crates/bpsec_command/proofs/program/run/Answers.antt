@@ -30,6 +30,6 @@ returns-in-Ok-clause-no_memory g c =
 pub returns-in-Ok-clause-complete : goal.returns-in-Ok-clause-complete
 returns-in-Ok-clause-complete g c =
     let own = is_answered (map string_bytes c.args.words.now) _ c.in-Ok.answer c.in-Ok.ensures.answer in
-    λ source shelf sinks memory.
+    λ source sinks memory.
     let takes = sinks c.in-Ok.answer c.in-Ok.ensures.answer in
     subst HasNoFault (sym (c.deliver.ensures.takes_on (rw c.as_slice.ensures takes.0) (rw c.as_slice-in-Ok.ensures takes.1))) (no_fault c.in-Ok.answer.status own)
