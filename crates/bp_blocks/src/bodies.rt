@@ -1,6 +1,6 @@
 //! The bodies of extension blocks (RFC 9171, section 4.4).
 
-ghost use Rattle.std.specs.Prelude.{◌≡◌, ◌+◌, ◌<◌, ◌≤◌, ◌^◌, ◌++◌, ℕ, List, Some, IfOk, IfSome, MatchResult, IsSomeAnd, OnOk, OnErr, length, take};
+ghost use Rattle.std.specs.Prelude.{◌≡◌, ◌+◌, ◌<◌, ◌≤◌, ◌^◌, ◌++◌, ℕ, List, Some, Err, IfOk, IfSome, MatchResult, IsSomeAnd, OnOk, OnErr, length, take};
 ghost use Rattle.cbor_profile.specs.Head.{head_spelling};
 ghost use Rattle.cbor_profile.specs.Put.{uint};
 ghost use Rattle.bp_eid.specs.EndpointId.{Fits, spelling};
@@ -8,6 +8,7 @@ ghost use Rattle.bp_eid.specs.declared.eid.Eid.{Eid};
 ghost use Rattle.bp_blocks.specs.Bodies.{IsHops, hops};
 ghost use Rattle.bp_blocks.specs.declared.bodies.Hops.{Hops};
 
+use bp_eid::laws::ids_are_read_as_spelled;
 use bp_eid::{Eid, EidAt};
 use cbor_profile::{Bytes, HeadRead, NoMemory, SpellError, head_at, put_array, put_uint};
 use std::alloc::Global;
@@ -33,7 +34,10 @@ pub fn previous_node(alloc: Global, body: &[u8]) -> Result<Eid, BodyFault>
     ensures found { IfOk result (λ eid. (body.now ≡ spelling eid) × Fits eid) }
     ensures only { (eid : Eid) → Fits eid → body.now ≡ spelling eid
         → MatchResult result (λ found. found ≡ eid) (λ fault. fault ≡ BodyFault.NoMemory) }
+    // Memory runs out only where an id is at the front.
+    ensures memory { result ≡ Err BodyFault.NoMemory → (eid : Eid) × (rest : List ℕ) × Fits eid × (body.now ≡ spelling eid ++ rest) }
 {
+    ids_are_read_as_spelled();
     match Eid::read(alloc, body) {
         Ok(EidAt { eid, len }) => {
             if len == body.len() {

@@ -1,6 +1,7 @@
-use Rattle.std.proofs.Common.{◌≡◌, [], length, sym, ap, ◌∙◌, append-nil}
+use Rattle.std.proofs.Common.{◌≡◌, [], length, sym, ap, ◌∙◌, append-nil, arith}
 use Rattle.bp_eid.specs.EndpointId.{spelling}
 use Rattle.bp_eid.specs.declared.reading.EidAt.{EidAt}
+use Rattle.bp_blocks.proofs.FrontId.{front_id}
 use Rattle.bp_blocks.proofs.bodies.previous_node.Goals as goal
 
 pub returns-then-len-body-clause-only : goal.returns-then-len-body-clause-only
@@ -20,3 +21,8 @@ returns-in-Err-Fault-clause-only c = λ eid fits e.
     let read = c.in-Err-Fault.ensures.only eid [] fits (e ∙ sym (append-nil (spelling eid))) in
     let differs = rw c.in-Err-Fault.field-0-is at read in
     cc
+
+pub returns-in-Err-NoMemory-clause-memory : goal.returns-in-Err-NoMemory-clause-memory
+returns-in-Err-NoMemory-clause-memory c = λ e.
+    let ok = rw c.in-Err-NoMemory.field-0-is at c.in-Err-NoMemory.ensures.exact in
+    front_id c.ids_are_read_as_spelled.ensures.means c.args.body.now (λ i. omega (arith, c.type_inv.body i)) ok
