@@ -1,5 +1,5 @@
--- Pieces fed one after another, and how long they are.
-use Rattle.std.proofs.Common.{◌≡◌, ℕ, ◌+◌, ◌^◌, ◌<◌, ◌≤◌, List, ◌++◌, length, refl, arith, append_assoc, length-append, inl, inr}
+-- How long the pieces of a block are.
+use Rattle.std.proofs.Common.{◌≡◌, ℕ, ◌+◌, ◌^◌, ◌<◌, ◌≤◌, List, length, refl, arith, length-append, inl, inr}
 use Rattle.std.proofs.lemmas.Bool.{cases_lt, lt-ltb, le-ltb}
 use Rattle.cbor_profile.specs.Head.{head_spelling}
 use Rattle.cbor_profile.specs.Put.{uint, byte_string, array_head}
@@ -7,15 +7,8 @@ use Rattle.bp_crc.specs.Check.{check_bytes}
 use Rattle.bp_crc.specs.declared.kind.CheckKind.{CheckKind}
 use Rattle.bp_crc.specs.declared.kind.CheckKind.TheVariants.{None, Crc16, Crc32c}
 use Rattle.bp_blocks.specs.declared.block.Block.{Block}
-use Rattle.bp_blocks.specs.Feeds.{Feeds}
 use Rattle.bp_crc.specs.Item.{zeros, check_item, check_count, check_type}
 use Rattle.bp_blocks.specs.Spelling.{IsBlock, array_with, spelling}
-
-pub feeds_both : {S : Type 0} (stands : S → List ℕ → Type 0) (most : ℕ) {s t u : S} {p q : List ℕ} → Feeds stands most s t p → Feeds stands most t u q → Feeds stands most s u (p ++ q)
-feeds_both stands most {p} {q} first second fed holds room =
-    let all : length (p ++ q) ≡ length p + length q = length-append p q in
-    let front : length (fed ++ p) ≡ length fed + length p = length-append fed p in
-    rw (← append_assoc) (second (fed ++ p) (first fed holds (omega arith)) (omega arith))
 
 -- a head has at most nine bytes
 pub head_is_short : (major argument : ℕ) → length (head_spelling major argument) ≤ 9

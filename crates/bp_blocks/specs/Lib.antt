@@ -1,3 +1,2 @@
-pub mod Feeds
 pub mod Spelling
 pub mod Bodies

@@ -3,12 +3,13 @@
 ghost use Rattle.std.specs.Prelude.{◌≡◌, ◌<◌, ◌≤◌, ◌+◌, ◌^◌, ◌++◌, ℕ, List, length, take, OnOk, OnErr, IfOk};
 ghost use Rattle.bp_crc.specs.Check.{IsWidth, check};
 ghost use Rattle.bp_crc.specs.Item.{zeros};
-ghost use Rattle.bp_blocks.specs.Feeds.{Feeds};
+ghost use Rattle.cbor_profile.specs.Feeds.{Feeds};
 
 use crate::counted::Counted;
-use crate::feeding::{feed_head, feed_string};
 use bp_crc::{CheckKind, Crc};
-use cbor_profile::{Bytes, Feed, NoMemory, put_array, put_bytes, put_uint};
+use cbor_profile::{
+    Bytes, Feed, NoMemory, feed_array, feed_bytes, feed_uint, put_array, put_bytes, put_uint,
+};
 use std::alloc::Global;
 
 /// A canonical block (RFC 9171, section 4.3.2).
@@ -30,18 +31,18 @@ impl Block {
     ghost use Rattle.bp_blocks.specs.Spelling.{IsBlock, array_with, spelling};
 
     /// Feeds the array with these bytes as its check.
-    #[tactic(auto, unfolding(crate::specs::Spelling::array_with, cbor_profile::specs::Put::uint, cbor_profile::specs::Put::array_head))]
+    #[tactic(auto, unfolding(crate::specs::Spelling::array_with))]
     fn feed_with<F: Feed>(&self, check: &[u8], into: &mut F)
         ensures stands { Feeds F.stands_for F.MOST into.old into.new (array_with self.now check.now) }
         ensures fixed { F.fixed into.new ≡ F.fixed into.old }
         ensures fits { IsBlock self.now }
     {
-        feed_head(into, 4, 5 + self.crc.count());
-        feed_head(into, 0, self.kind);
-        feed_head(into, 0, self.number);
-        feed_head(into, 0, self.flags);
-        feed_head(into, 0, self.crc.number());
-        feed_string(into, self.body.as_slice());
+        feed_array(into, 5 + self.crc.count());
+        feed_uint(into, self.kind);
+        feed_uint(into, self.number);
+        feed_uint(into, self.flags);
+        feed_uint(into, self.crc.number());
+        feed_bytes(into, self.body.as_slice());
         self.crc.feed(check, into);
     }
 

@@ -4,7 +4,6 @@
 mod block;
 mod bodies;
 mod counted;
-mod feeding;
 pub mod laws;
 
 pub use block::Block;

@@ -1,11 +1,11 @@
 //! A check as the last item of a block's array (RFC 9171, sections 4.3.1 and 4.3.2).
 
-ghost use Rattle.std.specs.Prelude.{◌≡◌, ◌+◌, ◌≤◌, ◌++◌, ℕ, List, length, OnOk, OnErr};
-ghost use Rattle.cbor_profile.specs.Put.{byte_string};
+ghost use Rattle.std.specs.Prelude.{◌≡◌, ◌≤◌, ◌++◌, length, OnOk, OnErr};
+ghost use Rattle.cbor_profile.specs.Feeds.{Feeds};
 ghost use Rattle.bp_crc.specs.Item.{check_type, check_count, check_item, zeros};
 
 use crate::kind::CheckKind;
-use cbor_profile::{Bytes, Feed, Head, NoMemory, head_bytes, put_bytes};
+use cbor_profile::{Bytes, Feed, NoMemory, feed_bytes, put_bytes};
 
 impl CheckKind {
     /// The check type as a number: 0, 1 or 2.
@@ -67,8 +67,7 @@ impl CheckKind {
 
     /// Feeds the item of a check with these bytes. Takes no memory.
     pub fn feed<F: Feed>(self, check: &[u8], into: &mut F)
-        ensures stands { (fed : List ℕ) → F.stands_for into.old fed → length fed + length (check_item self check.now) ≤ F.MOST
-            → F.stands_for into.new (fed ++ check_item self check.now) }
+        ensures stands { Feeds F.stands_for F.MOST into.old into.new (check_item self check.now) }
         ensures fixed { F.fixed into.new ≡ F.fixed into.old }
     {
         match self {
@@ -76,19 +75,4 @@ impl CheckKind {
             CheckKind::Crc16 | CheckKind::Crc32c => feed_bytes(into, check),
         }
     }
-}
-
-// A byte string.
-#[tactic(auto, unfolding(cbor_profile::specs::Put::byte_string, cbor_profile::specs::Head::spelling))]
-fn feed_bytes<F: Feed>(into: &mut F, content: &[u8])
-    ensures stands { (fed : List ℕ) → F.stands_for into.old fed → length fed + length (byte_string content.now) ≤ F.MOST
-        → F.stands_for into.new (fed ++ byte_string content.now) }
-    ensures fixed { F.fixed into.new ≡ F.fixed into.old }
-{
-    let head = head_bytes(Head {
-        major: 2,
-        value: content.len() as u64,
-    });
-    into.feed(head.as_slice());
-    into.feed(content);
 }

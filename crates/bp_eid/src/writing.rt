@@ -1,11 +1,15 @@
 //! Writing endpoint ids.
 
 ghost use Rattle.std.specs.Prelude.{◌≡◌, ◌+◌, ◌<◌, ◌≤◌, ◌^◌, ◌++◌, ℕ, List, length, take, OnOk, OnErr};
+ghost use Rattle.cbor_profile.specs.Feeds.{Feeds};
 ghost use Rattle.cbor_profile.specs.Head.{IsHead, head_spelling};
 ghost use Rattle.bp_eid.specs.EndpointId.{spelling, Fits};
 
 use crate::eid::Eid;
-use cbor_profile::{Bytes, Feed, Head, NoMemory, head_bytes, put_array, put_text, put_uint};
+use cbor_profile::{
+    Bytes, Feed, Head, NoMemory, feed_array, feed_text, feed_uint, head_bytes, put_array, put_text,
+    put_uint,
+};
 
 impl Eid {
     /// Appends the spelling, or for want of memory a part of it.
@@ -58,41 +62,27 @@ fn head_size(major: u8, value: u64) -> u64
     bytes.as_slice().len() as u64
 }
 
-/// Feeds a head.
-fn feed_head<F: Feed>(into: &mut F, major: u8, value: u64)
-    requires { IsHead (record { major = major; value = value }) }
-    ensures stands { (fed : List ℕ) → F.stands_for into.old fed → length fed + length (head_spelling major value) ≤ F.MOST
-        → F.stands_for into.new (fed ++ head_spelling major value) }
-    ensures fixed { F.fixed into.new ≡ F.fixed into.old }
-{
-    let bytes = head_bytes(Head { major, value });
-    into.feed(bytes.as_slice());
-}
-
 impl Eid {
     /// Feeds the spelling. Takes no memory.
     pub fn feed_into<F: Feed>(&self, into: &mut F)
-        ensures stands { (fed : List ℕ) → F.stands_for into.old fed → length fed + length (spelling self.now) ≤ F.MOST
-            → F.stands_for into.new (fed ++ spelling self.now) }
+        ensures stands { Feeds F.stands_for F.MOST into.old into.new (spelling self.now) }
         ensures fixed { F.fixed into.new ≡ F.fixed into.old }
     {
-        feed_head(into, 4, 2);
+        feed_array(into, 2);
         match self {
             Eid::Null => {
-                feed_head(into, 0, 1);
-                feed_head(into, 0, 0);
+                feed_uint(into, 1);
+                feed_uint(into, 0);
             }
             Eid::Dtn(text) => {
-                let text = text.bytes();
-                feed_head(into, 0, 1);
-                feed_head(into, 3, text.len() as u64);
-                into.feed(text);
+                feed_uint(into, 1);
+                feed_text(into, text.bytes());
             }
             Eid::Ipn { node, service } => {
-                feed_head(into, 0, 2);
-                feed_head(into, 4, 2);
-                feed_head(into, 0, *node);
-                feed_head(into, 0, *service);
+                feed_uint(into, 2);
+                feed_array(into, 2);
+                feed_uint(into, *node);
+                feed_uint(into, *service);
             }
         }
     }

@@ -1,5 +1,5 @@
 -- Pieces fed one after another, and how long they are.
-use Rattle.std.proofs.Common.{◌≡◌, ℕ, ◌+◌, ◌<◌, ◌≤◌, List, ◌++◌, length, refl, ap, arith, append_assoc, length-append}
+use Rattle.std.proofs.Common.{◌≡◌, ℕ, ◌+◌, ◌<◌, ◌≤◌, List, length, refl, ap, arith, length-append}
 use Rattle.std.proofs.lemmas.Bool.{lt-ltb}
 use Rattle.cbor_profile.specs.Head.{head_spelling}
 use Rattle.cbor_profile.specs.Put.{byte_string}
@@ -10,16 +10,9 @@ use Rattle.std.specs.declared.option.Option.{Option}
 use Rattle.std.specs.declared.option.Option.TheVariants as options
 use Rattle.bp_primary.specs.declared.primary.Piece.{Piece}
 use Rattle.bp_primary.specs.declared.primary.Primary.{Primary}
-use Rattle.bp_primary.specs.Feeds.{Feeds}
 use Rattle.bp_crc.specs.Item.{check_item, zeros, check_count, check_type}
 use Rattle.bp_primary.specs.Fragment.{fragment_count}
 use Rattle.bp_primary.specs.Spelling.{array_with, spelling}
-
-pub feeds_both : {S : Type 0} (stands : S → List ℕ → Type 0) (most : ℕ) {s t u : S} {p q : List ℕ} → Feeds stands most s t p → Feeds stands most t u q → Feeds stands most s u (p ++ q)
-feeds_both stands most {p} {q} first second fed holds room =
-    let all : length (p ++ q) ≡ length p + length q = length-append p q in
-    let front : length (fed ++ p) ≡ length fed + length p = length-append fed p in
-    rw (← append_assoc) (second (fed ++ p) (first fed holds (omega arith)) (omega arith))
 
 -- the item of a check is as long as that of zeros in its place
 same_item : (kind : CheckKind) (bytes : List ℕ) → length (check_item kind (check_bytes kind bytes)) ≡ length (check_item kind (zeros kind))

@@ -1,4 +1,3 @@
-pub mod Feeds
 pub mod Flags
 pub mod Fragment
 pub mod Spelling

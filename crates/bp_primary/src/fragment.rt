@@ -2,12 +2,11 @@
 
 ghost use Rattle.std.specs.Prelude.{◌≡◌, ◌<◌, ◌≤◌, ◌^◌, ◌++◌, length, take, OnOk, OnErr};
 ghost use Rattle.std.specs.Option.{ForSome};
-ghost use Rattle.bp_primary.specs.Feeds.{Feeds};
+ghost use Rattle.cbor_profile.specs.Feeds.{Feeds};
 ghost use Rattle.bp_primary.specs.Fragment.{fragment_items, fragment_count};
 
-use crate::feeding::{feed_head, size_of};
 use crate::primary::Piece;
-use cbor_profile::{Bytes, Feed, NoMemory, put_uint};
+use cbor_profile::{Bytes, Feed, NoMemory, feed_uint, put_uint, uint_size};
 
 /// How many items a fragment adds.
 pub(crate) fn fragment_count(fragment: Option<Piece>) -> u64
@@ -20,14 +19,14 @@ pub(crate) fn fragment_count(fragment: Option<Piece>) -> u64
 }
 
 /// The offset and the total length of a fragment.
-#[tactic(auto, unfolding(crate::specs::Fragment::fragment_items, cbor_profile::specs::Put::uint))]
+#[tactic(auto, unfolding(crate::specs::Fragment::fragment_items))]
 pub(crate) fn feed_fragment<F: Feed>(into: &mut F, fragment: Option<Piece>)
     ensures stands { Feeds F.stands_for F.MOST into.old into.new (fragment_items fragment) }
     ensures fixed { F.fixed into.new ≡ F.fixed into.old }
 {
     if let Some(piece) = fragment {
-        feed_head(into, 0, piece.offset);
-        feed_head(into, 0, piece.total);
+        feed_uint(into, piece.offset);
+        feed_uint(into, piece.total);
     }
 }
 
@@ -53,6 +52,6 @@ pub(crate) fn fragment_size(fragment: Option<Piece>) -> u64
 {
     match fragment {
         None => 0,
-        Some(piece) => size_of(piece.offset) + size_of(piece.total),
+        Some(piece) => uint_size(piece.offset) + uint_size(piece.total),
     }
 }

@@ -1,7 +1,6 @@
 //! The primary block of a bundle (RFC 9171, section 4.3.1).
 #![tactic(auto)]
 
-mod feeding;
 mod fragment;
 pub mod laws;
 mod parts;

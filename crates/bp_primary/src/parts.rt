@@ -1,15 +1,14 @@
 //! The items of a primary block before those of a fragment, in three groups.
 
 ghost use Rattle.std.specs.Prelude.{◌≡◌, ◌+◌, ◌++◌, length, take, OnOk, OnErr};
-ghost use Rattle.bp_primary.specs.Feeds.{Feeds};
+ghost use Rattle.cbor_profile.specs.Feeds.{Feeds};
 ghost use Rattle.bp_crc.specs.Item.{check_count};
 ghost use Rattle.bp_primary.specs.Fragment.{fragment_count};
 ghost use Rattle.bp_primary.specs.Spelling.{front, nodes, times};
 
-use crate::feeding::feed_head;
 use crate::fragment::fragment_count;
 use crate::primary::Primary;
-use cbor_profile::{Bytes, Feed, NoMemory, put_array, put_uint};
+use cbor_profile::{Bytes, Feed, NoMemory, feed_array, feed_uint, put_array, put_uint};
 
 /// The version of the bundle protocol.
 const VERSION: u64 = 7;
@@ -27,10 +26,10 @@ impl Primary {
         ensures stands { Feeds F.stands_for F.MOST into.old into.new (front self.now) }
         ensures fixed { F.fixed into.new ≡ F.fixed into.old }
     {
-        feed_head(into, 4, self.count());
-        feed_head(into, 0, VERSION);
-        feed_head(into, 0, self.flags);
-        feed_head(into, 0, self.crc.number());
+        feed_array(into, self.count());
+        feed_uint(into, VERSION);
+        feed_uint(into, self.flags);
+        feed_uint(into, self.crc.number());
     }
 
     /// Appends the head of the array, the version, the flags and the check type, or a part for want of memory.
@@ -71,10 +70,10 @@ impl Primary {
         ensures stands { Feeds F.stands_for F.MOST into.old into.new (times self.now) }
         ensures fixed { F.fixed into.new ≡ F.fixed into.old }
     {
-        feed_head(into, 4, 2);
-        feed_head(into, 0, self.created);
-        feed_head(into, 0, self.sequence);
-        feed_head(into, 0, self.lifetime);
+        feed_array(into, 2);
+        feed_uint(into, self.created);
+        feed_uint(into, self.sequence);
+        feed_uint(into, self.lifetime);
     }
 
     /// Appends the creation timestamp and the lifetime, or a part for want of memory.

@@ -3,14 +3,13 @@
 ghost use Rattle.std.specs.Prelude.{◌≡◌, ◌+◌, ◌%◌, ◌^◌, ◌<◌, ◌≤◌, ◌↔◌, ◌++◌, ℕ, List, length, take, is_some, IsSome, IsTrue, IfOk, OnOk, OnErr};
 ghost use Rattle.bp_crc.specs.Check.{IsWidth, check};
 ghost use Rattle.bp_crc.specs.Item.{zeros};
-ghost use Rattle.bp_primary.specs.Feeds.{Feeds};
+ghost use Rattle.cbor_profile.specs.Feeds.{Feeds};
 ghost use Rattle.bp_primary.specs.Flags.{is_fragment};
 
-use crate::feeding::size_of;
 use crate::fragment::{feed_fragment, fragment_size, put_fragment};
 use bp_crc::{CheckKind, Crc};
 use bp_eid::Eid;
-use cbor_profile::{Bytes, Feed, NoMemory};
+use cbor_profile::{Bytes, Feed, NoMemory, uint_size};
 use std::alloc::Global;
 
 /// Where the payload of a fragment stands in the whole payload, in bytes.
@@ -85,9 +84,9 @@ impl Primary {
         ensures fits { IsPrimary self.now }
     {
         let nodes = self.destination.size() + self.source.size() + self.report_to.size();
-        let times = size_of(self.created) + size_of(self.sequence) + size_of(self.lifetime);
+        let times = uint_size(self.created) + uint_size(self.sequence) + uint_size(self.lifetime);
         let last = fragment_size(self.fragment) + self.crc.size();
-        4 + size_of(self.flags) + nodes + times + last
+        4 + uint_size(self.flags) + nodes + times + last
     }
 
     /// The check over the array whose check bytes are zero.

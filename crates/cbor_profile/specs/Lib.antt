@@ -6,3 +6,4 @@ pub mod Put
 pub mod Item
 pub mod ItemAnswer
 pub mod Token
+pub mod Feeds

@@ -5,6 +5,7 @@
 mod bytes;
 mod fault;
 mod feed;
+mod feeding;
 mod head;
 mod item;
 pub mod laws;
@@ -15,6 +16,7 @@ mod put;
 pub use bytes::Bytes;
 pub use fault::{Fault, Reason, SpellError, head_of_token};
 pub use feed::{Feed, Gather};
+pub use feeding::{feed_array, feed_bytes, feed_text, feed_uint, uint_size};
 pub use head::{Head, HeadBytes, HeadRead, head_at, head_bytes};
 pub use item::{ItemRead, item_at};
 pub use list::List;

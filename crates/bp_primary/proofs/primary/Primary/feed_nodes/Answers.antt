@@ -1,5 +1,5 @@
+use Rattle.cbor_profile.specs.Feeds.{feeds_both}
 use Rattle.bp_primary.specs.Spelling.{nodes}
-use Rattle.bp_primary.proofs.Pieces.{feeds_both}
 use Rattle.bp_primary.proofs.primary.Primary.feed_nodes.Goals as goal
 
 pub returns-clause-stands : goal.returns-clause-stands

@@ -1,5 +1,5 @@
+use Rattle.cbor_profile.specs.Feeds.{feeds_both}
 use Rattle.bp_primary.specs.Spelling.{array_with}
-use Rattle.bp_primary.proofs.Pieces.{feeds_both}
 use Rattle.bp_primary.proofs.primary.Primary.feed_with.Goals as goal
 
 pub returns-clause-stands : goal.returns-clause-stands
