@@ -12,6 +12,10 @@ fn fed<F: Feed>(into: &mut F) {
     into.feed(b"one ");
     into.feed(b"");
     into.feed(b"two");
+    feed_array(into, 3);
+    feed_uint(into, 500);
+    feed_bytes(into, b"\x01\x02");
+    feed_text(into, b"IETF");
 }
 
 #[test]
@@ -97,7 +101,11 @@ fn gathers_what_is_fed(rt: HostRuntime) -> Result<(), Fail> {
     let mut gather = Gather::new(rt.alloc());
     fed(&mut gather);
     let bytes = gather.finish()?;
-    assert_eq!(rt; bytes.as_slice(), b"one two".as_slice());
+    assert_eq!(rt;
+        bytes.as_slice(),
+        b"one two\x83\x19\x01\xf4\x42\x01\x02\x64IETF".as_slice()
+    );
+    assert_eq!(rt; uint_size(500), 3);
     Ok(())
 }
 
