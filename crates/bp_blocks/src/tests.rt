@@ -50,6 +50,34 @@ fn payload_with_crc_32c(rt: HostRuntime) -> Result<(), Fail> {
     Ok(())
 }
 
+// The bundle age block of RFC 9173, appendix A.3.1, whose type and number differ, with flags that differ from them too.
+#[test]
+fn fields_stand_in_their_order(rt: HostRuntime) -> Result<(), Fail> {
+    let mut body = Bytes::new(rt.alloc());
+    put_age(&mut body, 300)?;
+    let mut block = Block {
+        kind: 7,
+        number: 2,
+        flags: 0,
+        crc: CheckKind::None,
+        body,
+    };
+    let mut out = Bytes::new(rt.alloc());
+    block.put(&mut out)?;
+    assert_eq!(rt;
+        out.as_slice(),
+        b"\x85\x07\x02\x00\x00\x43\x19\x01\x2c".as_slice()
+    );
+    block.flags = 4;
+    let mut out = Bytes::new(rt.alloc());
+    block.put(&mut out)?;
+    assert_eq!(rt;
+        out.as_slice(),
+        b"\x85\x07\x02\x04\x00\x43\x19\x01\x2c".as_slice()
+    );
+    Ok(())
+}
+
 #[test]
 fn ages(rt: HostRuntime) -> Result<(), Fail> {
     assert_eq!(rt; age(b"\x00"), Some(0));

@@ -8,3 +8,4 @@ pub mod Lengths
 pub mod Decimals
 pub mod Texts
 pub mod Growing
+pub mod Answered

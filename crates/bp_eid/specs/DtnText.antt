@@ -1,5 +1,6 @@
 -- Texts of the dtn scheme: RFC 9171, section 4.2.5.1.1. Every byte after the two slashes is a visible character (VCHAR in
--- RFC 5234, appendix B.1). The limit on the length is this profile's.
+-- RFC 5234, appendix B.1). This profile's are the limit on the length, that a node name has any visible characters but
+-- slashes, that no slash need follow it, and that slashes alone are no text.
 use Rattle.std.specs.Prelude.{ℕ, Bool, not, ◌==◌, ◌&&◌, nat_le, IsTrue, List, [], ◌∷◌, length, drop}
 use Rattle.std.specs.List.{list_any, list_all, starts_with, before_first}
 

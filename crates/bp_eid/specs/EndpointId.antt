@@ -35,8 +35,9 @@ Fits Null = Unit {0}
 Fits (Dtn text) = IsDtnText text
 Fits (Ipn node service) = (node < 2 ^ 64) × (service < 2 ^ 64)
 
--- Both name endpoints of one node (section 4.2.5.2): both are of the scheme ipn and have one node number, or both are of
--- the scheme dtn and have one node name, which isn't empty.
+-- Both name endpoints of one node: both are of the scheme ipn and have one node number (section 4.2.5.1.2), or both are of
+-- the scheme dtn and have one node name (section 4.2.5.1.1), which isn't empty. That an empty name is of no node is this
+-- profile's.
 abbrev pub SameNode : Eid → Eid → Type 0
 SameNode (Ipn node service) (Ipn other service') = node ≡ other
 SameNode (Dtn text) (Dtn other) = (node_name text ≢ []) × (node_name text ≡ node_name other)

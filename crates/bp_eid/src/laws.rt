@@ -2,10 +2,12 @@
 //! follows from.
 
 ghost use Rattle.std.specs.Prelude.{◌≡◌, ◌≢◌, ◌+◌, ◌<◌, ◌≤◌, ◌++◌, ℕ, List, Ok, Err, length, slice_index};
+ghost use Rattle.cbor_profile.specs.declared.fault.Fault.{Fault};
 ghost use Rattle.cbor_profile.specs.declared.fault.Reason.TheVariants.{Truncated};
 ghost use Rattle.bp_eid.specs.EndpointId.{spelling, text_form, Fits};
-ghost use Rattle.bp_eid.specs.Reading.{id_at};
+ghost use Rattle.bp_eid.specs.Reading.{id_at, read_id};
 ghost use Rattle.bp_eid.specs.declared.eid.Eid.{Eid};
+ghost use Rattle.bp_eid.specs.declared.reading.EidAt.{EidAt};
 ghost use Rattle.bp_eid.specs.declared.stop.Stop.{Stop};
 
 use cbor_profile::laws;
@@ -43,4 +45,11 @@ pub fn reading_stays_the_same()
     ensures id { (bytes more : List ℕ) (eid : Eid) (rest : List ℕ) → id_at bytes ≡ Ok (eid, rest) → id_at (bytes ++ more) ≡ Ok (eid, rest ++ more) }
     ensures stop { (bytes more : List ℕ) (stop : Stop) → id_at bytes ≡ Err stop → stop.reason ≢ Truncated
         → id_at (bytes ++ more) ≡ Err (record { reason = stop.reason; left = stop.left + length more }) }
+{}
+
+/// So an id that is read, and a fault with its place, is answered again whatever bytes are added, but where the bytes end
+/// too early.
+pub fn answers_stay_the_same()
+    ensures id { (bytes more : List ℕ) (at : EidAt) → read_id bytes ≡ Ok at → read_id (bytes ++ more) ≡ Ok at }
+    ensures fault { (bytes more : List ℕ) (fault : Fault) → read_id bytes ≡ Err fault → fault.reason ≢ Truncated → read_id (bytes ++ more) ≡ Err fault }
 {}

@@ -1,6 +1,6 @@
 //! Primary blocks.
 
-ghost use Rattle.std.specs.Prelude.{◌≡◌, ◌+◌, ◌%◌, ◌^◌, ◌<◌, ◌≤◌, ◌↔◌, ◌++◌, ℕ, List, length, take, is_some, IsSome, IsTrue, IfOk, OnOk, OnErr};
+ghost use Rattle.std.specs.Prelude.{◌≡◌, ◌+◌, ◌%◌, ◌^◌, ◌<◌, ◌≤◌, ◌↔◌, ◌++◌, length, take, is_some, IsSome, IsTrue, IfOk, OnOk, OnErr};
 ghost use Rattle.bp_crc.specs.Check.{IsWidth, check};
 ghost use Rattle.bp_crc.specs.Item.{zeros};
 ghost use Rattle.cbor_profile.specs.Feeds.{Feeds};
@@ -102,8 +102,7 @@ impl Primary {
 
     /// Feeds the spelling. Takes no memory.
     pub fn feed_into<F: Feed>(&self, into: &mut F)
-        ensures stands { (fed : List ℕ) → F.stands_for into.old fed → length fed + length (spelling self.now) ≤ F.MOST
-            → F.stands_for into.new (fed ++ spelling self.now) }
+        ensures stands { Feeds F.stands_for F.MOST into.old into.new (spelling self.now) }
         ensures fixed { F.fixed into.new ≡ F.fixed into.old }
     {
         // Read so that it is known to be a number of 64 bits.
