@@ -1,4 +1,5 @@
 pub mod EachByte
+pub mod InverseLemmas
 pub mod BoxTables
 pub mod FieldLemmas
 pub mod MixLemmas

@@ -1,8 +1,16 @@
 //! Laws of the cipher.
 
 ghost use Rattle.std.specs.Prelude.{◌≡◌, ◌<◌, ℕ, List, All, length};
+ghost use Rattle.aes_core.specs.Field.{product, inverse};
 ghost use Rattle.aes_core.specs.KeyExpansion.{IsKey};
 ghost use Rattle.aes_core.specs.Cipher.{cipher, inverse_cipher};
+
+/// The 254th power of a byte is its multiplicative inverse, and that of 0 is 0 (FIPS 197, section 4.4).
+#[tactic(auto, using(crate::proofs::InverseLemmas::product_of_inverse, crate::proofs::InverseLemmas::inverse_of_zero))]
+pub fn inverse_is_multiplicative()
+    ensures one { (a : ℕ) → 0 < a → a < 256 → product a (inverse a) ≡ 1 }
+    ensures zero { inverse 0 ≡ 0 }
+{}
 
 /// Decryption undoes encryption, for every key and block.
 pub fn decryption_undoes_encryption()

@@ -11,7 +11,9 @@ mod rounds;
 mod state;
 
 pub use cipher::Aes;
-pub use laws::{blocks_have_sixteen_bytes, decryption_undoes_encryption};
+pub use laws::{
+    blocks_have_sixteen_bytes, decryption_undoes_encryption, inverse_is_multiplicative,
+};
 
 #[cfg(test)]
 mod tests;

@@ -53,7 +53,8 @@ impl<const NK: usize> Gcm<NK> {
         }
     }
 
-    /// Enciphers the body in place, and returns its tag. Takes no memory.
+    /// Enciphers the body in place, and returns its tag (section 7.1). The initialisation vector has some bytes, and the body
+    /// at most 2^32. Takes no memory.
     pub fn seal(self, iv: &[u8], body: &mut [u8]) -> [u8; 16]
         requires vector { 0 < length iv.now }
         requires body { length body.old ≤ 2 ^ 32 }
@@ -66,7 +67,8 @@ impl<const NK: usize> Gcm<NK> {
         self.tag(&first, body)
     }
 
-    /// Deciphers the body in place if the tag is right, and says whether it is. Takes no memory.
+    /// Deciphers the body in place if the tag is right, and says whether it is (section 7.2). Else the body stays. The vector
+    /// has some bytes, and the body at most 2^32. Takes no memory.
     pub fn unseal(self, iv: &[u8], body: &mut [u8], tag: &[u8; 16]) -> bool
         requires vector { 0 < length iv.now }
         requires body { length body.old ≤ 2 ^ 32 }
@@ -87,7 +89,7 @@ impl<const NK: usize> Gcm<NK> {
         right
     }
 
-    /// Says whether the tag is right. Takes no memory.
+    /// Says whether the tag is right, and opens nothing (section 7.2). The vector has some bytes. Takes no memory.
     pub fn check(self, iv: &[u8], body: &[u8], tag: &[u8; 16]) -> bool
         requires vector { 0 < length iv.now }
         ensures { (aad : List ℕ) → HasTaken NK self.entry aad
