@@ -6,14 +6,11 @@ mod boxes;
 mod cipher;
 mod field;
 mod key_expansion;
-mod laws;
+pub mod laws;
 mod rounds;
 mod state;
 
 pub use cipher::Aes;
-pub use laws::{
-    blocks_have_sixteen_bytes, decryption_undoes_encryption, inverse_is_multiplicative,
-};
 
 #[cfg(test)]
 mod tests;

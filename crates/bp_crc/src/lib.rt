@@ -4,12 +4,11 @@
 
 mod item;
 mod kind;
-mod laws;
+pub mod laws;
 mod tables;
 mod value;
 
 pub use kind::CheckKind;
-pub use laws::{check_is_the_complement, check_is_within, check_of_the_digits, division_is_exact};
 pub use value::Crc;
 
 #[cfg(test)]

@@ -5,7 +5,7 @@ use Rattle.gcm_core.specs.Block.{polynomial_of, block_of}
 use Rattle.gcm_core.specs.Hash.{ghash, filled}
 use Rattle.gcm_core.specs.Counter.{counter_mode, bytes_sum}
 
--- the length in bits of n bytes, as 8 bytes
+-- The length in bits of n bytes, as 8 bytes. From 2 ^ 61 bytes on, which no memory holds, the standard has none.
 unfoldable pub length_in_bits : ℕ → List ℕ
 length_in_bits n = to_be_bytes w64 (8 * n)
 

@@ -4,7 +4,7 @@ ghost use Rattle.std.specs.Prelude.{◌≡◌, ◌+◌, ◌<◌, ℕ, List, All,
 ghost use Rattle.aes_core.specs.KeyExpansion.{IsKey};
 ghost use Rattle.key_wrap.specs.KeyWrap.{IsWrappable, registers, initial_value, wrap, unwrap};
 
-use aes_core::{blocks_have_sixteen_bytes, decryption_undoes_encryption};
+use aes_core::laws::{blocks_have_sixteen_bytes, decryption_undoes_encryption};
 
 /// Unwrapping a wrapped key gives the key and the default initial value, for every key-encryption key.
 pub fn unwrapping_undoes_wrapping()

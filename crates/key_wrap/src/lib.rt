@@ -2,11 +2,10 @@
 
 #![tactic(auto)]
 
-mod laws;
+pub mod laws;
 mod registers;
 mod wrapping;
 
-pub use laws::{unwrapping_undoes_wrapping, wrapped_keys_have_eight_bytes_more};
 pub use wrapping::{unwrap_into, wrap_into};
 
 #[cfg(test)]
