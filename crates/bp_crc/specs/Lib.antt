@@ -3,3 +3,4 @@ pub mod Division
 pub mod Item
 pub mod Polynomial
 pub mod Table
+pub mod Checking

@@ -1,9 +1,11 @@
 //! What the definitions amount to, apart from any loop.
 
-ghost use Rattle.std.specs.Prelude.{◌≡◌, ◌<◌, ◌≤◌, ◌^◌, ℕ, Bool, not, codes, List, map, length};
+ghost use Rattle.std.specs.Prelude.{◌≡◌, ◌<◌, ◌≤◌, ◌^◌, ℕ, Bool, not, codes, List, [], ◌∷◌, map, length};
 ghost use Rattle.bp_crc.specs.Check.{IsWidth, check, dividend, generator, number_of};
 ghost use Rattle.bp_crc.specs.Polynomial.{remainder};
 ghost use Rattle.bp_crc.specs.Division.{IsDivision};
+ghost use Rattle.bp_crc.specs.Item.{check_type};
+ghost use Rattle.bp_crc.specs.declared.kind.CheckKind.{CheckKind};
 
 /// Long division by a divisor whose leading coefficient is one, and whose others are `low`: the remainder has fewer
 /// coefficients than the divisor, and the dividend is a product of the divisor plus it. No other list is so.
@@ -28,4 +30,9 @@ pub fn check_is_within()
 pub fn check_of_the_digits()
     ensures crc_16 { check 16 (codes "123456789") ≡ 0x906e }
     ensures crc_32c { check 32 (codes "123456789") ≡ 0xe3069283 }
+{}
+
+/// What stays fixed of a check while it is fed names its kind.
+pub fn what_is_fixed_names_the_kind()
+    ensures { (a b : CheckKind) → check_type a ∷ [] ≡ check_type b ∷ [] → a ≡ b }
 {}

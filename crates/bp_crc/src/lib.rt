@@ -2,12 +2,15 @@
 //! over bits (RFC 9171, section 4.2.1).
 #![tactic(auto)]
 
+mod checking;
 mod item;
 mod kind;
 pub mod laws;
 mod tables;
 mod value;
 
+pub use cbor_profile::Feed;
+pub use checking::{CheckBytes, Checking};
 pub use kind::CheckKind;
 pub use value::Crc;
 

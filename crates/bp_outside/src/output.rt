@@ -1,12 +1,11 @@
 //! A writer of the system to write to, as standard output.
 
-ghost use Rattle.std.specs.Prelude.{◌≡◌, ◌<◌, ◌≤◌, length, take, IfOk, OnOk, OnErr};
+ghost use Rattle.std.specs.Prelude.{◌≡◌, ◌<◌, ◌≤◌, ℕ, length, take, IfOk, OnOk, OnErr};
 ghost use Rattle.std.specs.Io.KnownBytes.{Appends};
 ghost use Rattle.bp_outside.specs.Memory.{counted};
 
 use crate::fault::{Failed, Faults};
 use crate::sink::Sink;
-use std::io;
 use std::io::Write;
 use std::marker::Model;
 
@@ -38,14 +37,15 @@ impl<W> OutputSink<W> {
     }
 }
 
-/// One write, and a flush.
-fn write_through<W: Write>(writer: &mut W, piece: &[u8]) -> io::Result<usize>
-    ensures within { IfOk result (λ n. n ≤ length piece.now) }
-    ensures bytes { IfOk result (λ n. Appends (W.contents writer.old) (W.contents writer.new) (take n piece.now)) }
+/// One write, and a flush: how many bytes the writer took, and whether both went well.
+fn write_through<W: Write>(writer: &mut W, piece: &[u8]) -> (usize, bool)
+    ensures within { result.0 ≤ length piece.now }
+    ensures bytes { Appends (W.contents writer.old) (W.contents writer.new) (take result.0 piece.now) }
 {
-    let n = writer.write(piece)?;
-    writer.flush()?;
-    Ok(n)
+    match writer.write(piece) {
+        Ok(n) => (n, writer.flush().is_ok()),
+        Err(_) => (0, false),
+    }
 }
 
 impl<W: Write> Sink for OutputSink<W> {
@@ -62,13 +62,18 @@ impl<W: Write> Sink for OutputSink<W> {
         ensures some { IfOk result (λ n. 0 < length piece.now → 0 < n) }
         ensures bytes { IfOk result (λ n.
             Appends (W.contents self.old.device) (W.contents self.new.device) (take n piece.now)) }
+        // Where it fails, the writer got a prefix of the piece, and nothing else.
+        ensures prefix { OnErr result ((n : ℕ) × (n ≤ length piece.now)
+            × Appends (W.contents self.old.device) (W.contents self.new.device) (take n piece.now)) }
         ensures quiet { OnOk result (self.new.faults ≡ self.old.faults) }
         ensures failed { OnErr result (self.new.faults ≡ counted self.old.faults) }
         ensures never_falls { self.old.faults ≤ self.new.faults }
     {
-        match write_through(&mut self.writer, piece) {
-            Ok(n) if n > 0 || piece.is_empty() => Ok(n),
-            _ => Err(self.faults.rise()),
+        let (n, well) = write_through(&mut self.writer, piece);
+        if well && (n > 0 || piece.is_empty()) {
+            Ok(n)
+        } else {
+            Err(self.faults.rise())
         }
     }
 }

@@ -1,9 +1,10 @@
 use super::*;
 use cbor_profile::{Bytes, List};
 use std::alloc::Global;
-use std::fs;
+use std::io::{ErrorKind, Read, Write};
 use std::process::Abort;
 use std::test::Fail;
+use std::{fs, io};
 
 fn bytes_of(alloc: Global, text: &[u8]) -> Result<Bytes, Fail> {
     Ok(Bytes::of(Vec::from_slice(alloc, text)?))
@@ -126,6 +127,74 @@ fn real_streams(rt: HostRuntime) -> Result<(), Fail> {
     assert_eq!(rt; OutputSink::new(rt.stdout()).write(b""), Ok(0));
     assert_eq!(rt; OutputSink::new(rt.stderr()).write(b""), Ok(0));
     Ok(())
+}
+
+// A device that counts what it is asked, and fails from some call on.
+#[derive(Drop)]
+struct Counting {
+    calls: u64,
+    flushes: u64,
+    good: u64,
+}
+
+impl Counting {
+    fn call(&mut self) -> io::Result<()> {
+        self.calls = self.calls.saturating_add(1);
+        if self.calls <= self.good {
+            Ok(())
+        } else {
+            Err(io::Error::from(ErrorKind::Other))
+        }
+    }
+}
+
+impl Read for Counting {
+    fn read(&mut self, buf: &mut [u8]) -> io::Result<usize> {
+        self.call()?;
+        Ok(buf.len())
+    }
+}
+
+impl Write for Counting {
+    fn write(&mut self, buf: &[u8]) -> io::Result<usize> {
+        self.call()?;
+        Ok(buf.len())
+    }
+
+    fn flush(&mut self) -> io::Result<()> {
+        self.flushes = self.flushes.saturating_add(1);
+        self.call()
+    }
+}
+
+#[test]
+fn each_write_is_flushed(rt: HostRuntime) {
+    let mut device = Counting {
+        calls: 0,
+        flushes: 0,
+        good: 5,
+    };
+    let mut sink = OutputSink::new(&mut device);
+    assert_eq!(rt; sink.write(b"abc"), Ok(3));
+    assert_eq!(rt; sink.write(b"d"), Ok(1));
+    // The write is taken, and its flush fails; then the write fails.
+    assert_eq!(rt; sink.write(b"e"), Err(Failed));
+    assert_eq!(rt; sink.write(b"f"), Err(Failed));
+    assert_eq!(rt; (device.calls, device.flushes), (7, 3));
+}
+
+#[test]
+fn failed_reads_are_not_tried_again(rt: HostRuntime) {
+    let mut device = Counting {
+        calls: 0,
+        flushes: 0,
+        good: 1,
+    };
+    let mut source = InputSource::new(&mut device);
+    expect_read(&rt, &mut source, Ok(&[0; 3]));
+    expect_read(&rt, &mut source, Err(Failed));
+    expect_read(&rt, &mut source, Err(Failed));
+    assert_eq!(rt; device.calls, 3);
 }
 
 #[test]

@@ -137,3 +137,16 @@ unfolding read_item Stands
 item_answer_stands bytes more whole =
     let given : item_from most_levels bytes ≡ Err Short → ⊥ = λ s. whole (rw s refl) in
     rw (item_stands most_levels bytes more given) (same_answer bytes more (item_from most_levels bytes) whole)
+
+-- ---- an item is no longer than what it was read from
+
+answer_within : (bytes : List ℕ) (r : Result (List ℕ) ItemFault) (len : ℕ) → answer bytes r ≡ items.Whole len → len ≤ length bytes
+answer_within bytes (Ok rest) len e = let same : length bytes - length rest ≡ len = cc in omega arith
+answer_within bytes (Err Short) len e = absurd cc
+answer_within bytes (Err NotShortest) len e = absurd cc
+answer_within bytes (Err Bad) len e = absurd cc
+answer_within bytes (Err Deep) len e = absurd cc
+
+pub item_within : (bytes : List ℕ) (len : ℕ) → read_item bytes ≡ items.Whole len → len ≤ length bytes
+unfolding read_item
+item_within bytes len e = answer_within bytes (item_from most_levels bytes) len e

@@ -7,3 +7,4 @@ pub mod Item
 pub mod ItemAnswer
 pub mod Token
 pub mod Feeds
+pub mod Reasons

@@ -1,6 +1,6 @@
 //! Byte strings.
 
-ghost use Rattle.std.specs.Prelude.{◌≡◌, ◌++◌, ℕ, [], List, length, take, OnOk, OnErr, IfOk};
+ghost use Rattle.std.specs.Prelude.{◌≡◌, ◌↔◌, ◌++◌, IsTrue, ℕ, [], List, length, take, OnOk, OnErr, IfOk};
 ghost use Rattle.std.specs.Borrow.{Lends, Array, sem, u8 as byte};
 ghost use Rattle.cbor_profile.specs.Overwritten.{overwritten};
 ghost use Rattle.cbor_profile.specs.contracts.bytes.Bytes.{the_row};
@@ -23,7 +23,35 @@ impl Model for Bytes {
     ghost view = { λ b. b.content.items };
 }
 
+/// Two byte strings are equal exactly where they are the same list.
+impl PartialEq for Bytes {
+    ghost use Rattle.std.specs.Str.{bytes_eq};
+    ghost use Rattle.std.specs.Cmp as Cmp;
+    ghost use Rattle.std.specs.Cmp.Lexicographic.{nat_list_eq_equiv};
+
+    ghost eq = { λ a b. bytes_eq a b };
+
+    ghost laws = { Cmp.partial_equiv_from_equiv nat_list_eq_equiv };
+
+    fn eq(&self, other: &Bytes) -> bool {
+        self.as_slice() == other.as_slice()
+    }
+}
+
+impl Eq for Bytes {
+    ghost use Rattle.std.specs.Cmp.Lexicographic.{nat_list_eq_equiv};
+
+    ghost laws = { nat_list_eq_equiv };
+}
+
 impl Bytes {
+    /// Whether both are the same bytes. Takes no memory.
+    pub fn is(&self, other: &Bytes) -> bool
+        ensures { IsTrue result ↔ (self.now ≡ other.now) }
+    {
+        self == other
+    }
+
     /// No bytes. Takes no memory.
     pub fn new(alloc: Global) -> Bytes
         ensures { result ≡ [] }
@@ -91,6 +119,19 @@ impl Bytes {
     {
         self.content.extend_from_slice(piece)?;
         Ok(())
+    }
+
+    /// Ends an appending that began at the length `before`: where memory ran out in its middle, what it appended is
+    /// taken away again. So the bytes are as they were, or with the whole appended.
+    pub fn settle(&mut self, before: usize, appended: Result<(), NoMemory>) -> Result<(), NoMemory>
+        ensures same { result ≡ appended }
+        ensures ok { OnOk result (self.new ≡ self.old) }
+        ensures err { OnErr result (self.new ≡ take before self.old) }
+    {
+        if appended.is_err() {
+            self.truncate(before);
+        }
+        appended
     }
 
     /// The same bytes again.

@@ -1,8 +1,10 @@
 //! Faults of spelled bytes: the first one that reading from the left meets, and its place.
 
 ghost use Rattle.std.specs.Prelude.{◌≡◌, List, Ok, Err};
+ghost use Rattle.cbor_profile.specs.Reasons.{reason_number};
 ghost use Rattle.cbor_profile.specs.Token.{IsToken, token_head};
 ghost use Rattle.cbor_profile.specs.declared.fault.SpellError.TheVariants.{NoMemory};
+ghost use Rattle.cbor_profile.specs.declared.fault.SpellError.TheVariants as errors;
 
 use crate::head::{Head, HeadRead, head_at};
 use crate::memory;
@@ -34,6 +36,15 @@ pub enum Reason {
     Trailing = 10,
     /// A number that may stand once stood before.
     Repeated = 11,
+}
+
+impl Reason {
+    /// The number of the reason, 1 to 11.
+    pub fn number(self) -> u64
+        ensures { result ≡ reason_number self }
+    {
+        self as u64
+    }
 }
 
 /// A fault of spelled bytes. Its place is the number of bytes before the token, but for `Truncated` the number of all
@@ -71,6 +82,14 @@ impl From<memory::NoMemory> for SpellError {
 
     fn from(_error: memory::NoMemory) -> SpellError {
         SpellError::NoMemory
+    }
+}
+
+impl From<Fault> for SpellError {
+    ghost from_gives = { λ fault e. e ≡ errors.Fault fault };
+
+    fn from(fault: Fault) -> SpellError {
+        SpellError::Fault(fault)
     }
 }
 

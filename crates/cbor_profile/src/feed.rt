@@ -82,8 +82,12 @@ impl Feed for Gather {
 
     const MOST: u64 = u64::MAX;
 
-    fn feed(&mut self, piece: &[u8]) {
-        if self.kept.extend(piece).is_err() {
+    fn feed(&mut self, piece: &[u8])
+        ensures stands { (fed : List ℕ) → Gathers self.old fed → length fed + length piece.now ≤ 2 ^ 64 - 1
+            → Gathers self.new (fed ++ piece.now) }
+        ensures empty { piece.now ≡ [] → self.new ≡ self.old }
+    {
+        if !piece.is_empty() && self.kept.extend(piece).is_err() {
             self.lost = true;
         }
     }

@@ -1,7 +1,9 @@
 //! Laws over the definitions of this crate. Each is the contract of a function that does nothing.
 
-ghost use Rattle.std.specs.Prelude.{◌≡◌, ◌<◌, ◌≤◌, ◌^◌, ◌∷◌, ◌++◌, ◌↔◌, ℕ, List, length, take, slice_index};
+ghost use Rattle.std.specs.Prelude.{◌≡◌, ◌<◌, ◌≤◌, ◌^◌, ◌∷◌, ◌++◌, ◌↔◌, ◌==◌, ℕ, IsTrue, List, Ok, length, take, slice_index};
+ghost use Rattle.std.specs.List.{list_any};
 ghost use Rattle.cbor_profile.specs.Head.{spelling, IsHead, read_head};
+ghost use Rattle.cbor_profile.specs.Token.{token_head};
 ghost use Rattle.cbor_profile.specs.Item.{IsItem, most_levels, read_item};
 ghost use Rattle.cbor_profile.specs.declared.head.Head.{Head};
 ghost use Rattle.cbor_profile.specs.declared.head.HeadRead.TheVariants.{Whole, Short, Bad};
@@ -45,4 +47,13 @@ pub fn heads_are_bad_at_their_first_byte()
 /// Each answer about the item at the front stands, whatever bytes follow; only want of bytes may change.
 pub fn items_are_judged_from_the_left()
     ensures { (bytes more : List ℕ) → (read_item bytes ≡ items.Short → ⊥) → read_item (bytes ++ more) ≡ read_item bytes }
+{}
+
+/// What is spelled as a head of a permitted major type is read as the head of a token, and what follows it is left; and what
+/// is read so is spelled so, where the bytes are below 256.
+pub fn tokens_are_read_as_spelled()
+    ensures again { (kinds : List ℕ) (head : Head) (rest : List ℕ) → IsHead head → IsTrue (list_any (λ kind. kind == head.major) kinds)
+        → token_head kinds (spelling head ++ rest) ≡ Ok (head, rest) }
+    ensures means { (kinds bytes : List ℕ) (head : Head) (rest : List ℕ) → ((i : ℕ) → slice_index bytes i < 256) → token_head kinds bytes ≡ Ok (head, rest)
+        → (bytes ≡ spelling head ++ rest) × IsHead head × IsTrue (list_any (λ kind. kind == head.major) kinds) }
 {}

@@ -1,6 +1,6 @@
 //! Lists.
 
-ghost use Rattle.std.specs.Prelude.{◌≡◌, ◌<◌, ◌++◌, [], ◌∷◌, List, length, remove, slice_index_or, OnOk, OnErr, IfErr};
+ghost use Rattle.std.specs.Prelude.{◌≡◌, ◌<◌, ◌≤◌, ◌++◌, [], ◌∷◌, List, length, insert, remove, slice_index_or, OnOk, OnErr, IfErr};
 ghost use Rattle.std.specs.Borrow.{Lends, Array, sem};
 ghost use Rattle.cbor_profile.specs.Overwritten.{overwritten};
 ghost use Rattle.cbor_profile.specs.contracts.list.List.{the_row};
@@ -68,6 +68,19 @@ impl<T> List<T> {
         ensures back { IfErr result (λ back. back ≡ item) }
     {
         match self.items.push(item) {
+            Ok(()) => Ok(()),
+            Err(failed) => Err(failed.value),
+        }
+    }
+
+    /// Puts an item before the one at an index, or at the end. An `Err`, for want of memory alone, hands the item back.
+    pub fn insert(&mut self, index: usize, item: T) -> Result<(), T>
+        requires { index ≤ length self.old }
+        ensures ok { OnOk result (self.new ≡ insert self.old index item) }
+        ensures err { OnErr result (self.new ≡ self.old) }
+        ensures back { IfErr result (λ back. back ≡ item) }
+    {
+        match self.items.insert(index, item) {
             Ok(()) => Ok(()),
             Err(failed) => Err(failed.value),
         }

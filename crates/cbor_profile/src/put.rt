@@ -27,10 +27,7 @@ fn put_string(out: &mut Bytes, major: u8, content: &[u8]) -> Result<(), NoMemory
     let before = out.len();
     put_head(out, major, content.len() as u64)?;
     let added = out.extend(content);
-    if added.is_err() {
-        out.truncate(before);
-    }
-    added
+    out.settle(before, added)
 }
 
 /// An unsigned number.
