@@ -11,7 +11,7 @@ use Rattle.bp_eid.specs.Reading.{id_at, read_id, answer, place_of, fault_of}
 use Rattle.bp_eid.proofs.Growing.{id_stays, stop_stays}
 
 -- a place but that of bytes that end too early counts from the front
-place_stays : (given left more : ℕ) (reason : Reason) → reason ≢ reasons.Truncated → place_of (given + more) reason (left + more) ≡ place_of given reason left
+pub place_stays : (given left more : ℕ) (reason : Reason) → reason ≢ reasons.Truncated → place_of (given + more) reason (left + more) ≡ place_of given reason left
 place_stays given left more reasons.NotBundle other = omega arith
 place_stays given left more reasons.Truncated other = absurd (other refl)
 place_stays given left more reasons.NotShortest other = omega arith

@@ -69,7 +69,7 @@ whole_len (first ∷ rest) head len e =
 
 -- ---- tokens
 
-abbrev with_more : {X : Type 0} → List ℕ → X × List ℕ → X × List ℕ
+abbrev pub with_more : {X : Type 0} → List ℕ → X × List ℕ → X × List ℕ
 with_more more x = (x.0, x.1 ++ more)
 
 abbrev grown_token : List ℕ → Result (Head × List ℕ) Reason → Result (Head × List ℕ) Reason
@@ -99,51 +99,51 @@ token_grows kinds (first ∷ rest) more stays =
 -- ---- steps
 
 -- what was read, and a fault with as many more bytes left
-abbrev grown : {A : Type 0} → (A → A) → ℕ → Result A Stop → Result A Stop
+abbrev pub grown : {A : Type 0} → (A → A) → ℕ → Result A Stop → Result A Stop
 grown e k (Ok x) = Ok (e x)
 grown e k (Err stop) = Err (record { reason = stop.reason; left = stop.left + k })
 
 -- it isn't that bytes end too early
-Stays : {A : Type 0} → Result A Stop → Type 0
+unfoldable pub Stays : {A : Type 0} → Result A Stop → Type 0
 Stays (Ok x) = Unit {0}
 Stays (Err stop) = stop.reason ≢ reasons.Truncated
 
-abbrev Grows : {A : Type 0} → (A → A) → ℕ → Result A Stop → Result A Stop → Type 0
+abbrev pub Grows : {A : Type 0} → (A → A) → ℕ → Result A Stop → Result A Stop → Type 0
 Grows e k r r' = Stays r → r' ≡ grown e k r
 
-then_grows : {A B : Type 0} (e : A → A) (e' : B → B) (k : ℕ) (r r' : Result A Stop) (f g : A → Result B Stop) → Grows e k r r' → ((x : A) → Grows e' k (f x) (g (e x))) → Grows e' k (r >>= f) (r' >>= g)
+pub then_grows : {A B : Type 0} (e : A → A) (e' : B → B) (k : ℕ) (r r' : Result A Stop) (f g : A → Result B Stop) → Grows e k r r' → ((x : A) → Grows e' k (f x) (g (e x))) → Grows e' k (r >>= f) (r' >>= g)
 unfolding Stays
 then_grows e e' k (Ok x) r' f g p q stays = rw (p tt) (q x stays)
 then_grows e e' k (Err stop) r' f g p q stays = rw (p stays) refl
 
-either_grows : {A : Type 0} (e : A → A) (k : ℕ) (b : Bool) (x x' y y' : Result A Stop) → Grows e k x x' → Grows e k y y' → Grows e k (cond b x y) (cond b x' y')
+pub either_grows : {A : Type 0} (e : A → A) (k : ℕ) (b : Bool) (x x' y y' : Result A Stop) → Grows e k x x' → Grows e k y y' → Grows e k (cond b x y) (cond b x' y')
 either_grows e k true x x' y y' p q stays = p stays
 either_grows e k false x x' y y' p q stays = q stays
 
-stops_grows : {A : Type 0} (e : A → A) (bytes more : List ℕ) (reason : Reason) → Grows e (length more) (stops bytes reason) (stops (bytes ++ more) reason)
+pub stops_grows : {A : Type 0} (e : A → A) (bytes more : List ℕ) (reason : Reason) → Grows e (length more) (stops bytes reason) (stops (bytes ++ more) reason)
 stops_grows e bytes more reason stays = ap (λ (left : ℕ). Err (record { reason = reason; left = left })) (length-append bytes more)
 
-ok_grows : {A : Type 0} (e : A → A) (k : ℕ) (x : A) → Grows e k (Ok x) (Ok (e x))
+pub ok_grows : {A : Type 0} (e : A → A) (k : ℕ) (x : A) → Grows e k (Ok x) (Ok (e x))
 ok_grows e k x stays = refl
 
-at_token_grows : (bytes more : List ℕ) (r r' : Result (Head × List ℕ) Reason) → ((r ≡ Err reasons.Truncated → ⊥) → r' ≡ grown_token more r) → Grows (with_more more) (length more) (at_token bytes r) (at_token (bytes ++ more) r')
+pub at_token_grows : (bytes more : List ℕ) (r r' : Result (Head × List ℕ) Reason) → ((r ≡ Err reasons.Truncated → ⊥) → r' ≡ grown_token more r) → Grows (with_more more) (length more) (at_token bytes r) (at_token (bytes ++ more) r')
 unfolding Stays
 at_token_grows bytes more (Ok x) r' same stays = rw (same (λ e. cc)) refl
 at_token_grows bytes more (Err reason) r' same stays = rw (same (λ e. stays cc)) (stops_grows (with_more more) bytes more reason stays)
 
-head_grows : (kinds bytes more : List ℕ) → Grows (with_more more) (length more) (head_at kinds bytes) (head_at kinds (bytes ++ more))
+pub head_grows : (kinds bytes more : List ℕ) → Grows (with_more more) (length more) (head_at kinds bytes) (head_at kinds (bytes ++ more))
 head_grows kinds bytes more = at_token_grows bytes more (token_head kinds bytes) (token_head kinds (bytes ++ more)) (λ whole. token_grows kinds bytes more whole)
 
-abbrev rest_more : List ℕ → List ℕ → List ℕ
+abbrev pub rest_more : List ℕ → List ℕ → List ℕ
 rest_more more rest = rest ++ more
 
-pair_grows : (bytes more : List ℕ) → Grows (rest_more more) (length more) (pair_at bytes) (pair_at (bytes ++ more))
+pub pair_grows : (bytes more : List ℕ) → Grows (rest_more more) (length more) (pair_at bytes) (pair_at (bytes ++ more))
 unfolding pair_at
 pair_grows bytes more =
     then_grows (with_more more) (rest_more more) (length more) (head_at (4 ∷ []) bytes) (head_at (4 ∷ []) (bytes ++ more)) _ (λ head. cond (eqb head.0.value 2) (Ok head.1) (stops (bytes ++ more) reasons.WrongCount)) (head_grows (4 ∷ []) bytes more)
     (λ x. either_grows (rest_more more) (length more) (eqb x.0.value 2) (Ok x.1) (Ok (x.1 ++ more)) _ _ (ok_grows (rest_more more) (length more) x.1) (stops_grows (rest_more more) bytes more reasons.WrongCount))
 
-number_grows : (bytes more : List ℕ) → Grows (with_more more) (length more) (number_at bytes) (number_at (bytes ++ more))
+pub number_grows : (bytes more : List ℕ) → Grows (with_more more) (length more) (number_at bytes) (number_at (bytes ++ more))
 unfolding number_at
 number_grows bytes more =
     then_grows (with_more more) (with_more more) (length more) (head_at (0 ∷ []) bytes) (head_at (0 ∷ []) (bytes ++ more)) (λ head. Ok (head.0.value, head.1)) (λ head. Ok (head.0.value, head.1)) (head_grows (0 ∷ []) bytes more)
@@ -186,7 +186,7 @@ ipn_grows bytes more =
     (λ rest. then_grows (with_more more) e k (number_at rest) (number_at (rest ++ more)) numbers numbers (number_grows rest more)
     (λ node. then_grows (with_more more) e k (number_at node.1) (number_at (node.1 ++ more)) (last node.0) (last node.0) (number_grows node.1 more) (λ service. ok_grows e k (Ipn node.0 service.0, service.1))))
 
-id_grows : (bytes more : List ℕ) → Grows (with_more more) (length more) (id_at bytes) (id_at (bytes ++ more))
+pub id_grows : (bytes more : List ℕ) → Grows (with_more more) (length more) (id_at bytes) (id_at (bytes ++ more))
 unfolding id_at
 id_grows bytes more =
     let e : Eid × List ℕ → Eid × List ℕ = with_more more in

@@ -73,7 +73,7 @@ reads_same : (number : ℕ) (bytes : List ℕ) (x y : Eid × List ℕ) → Reads
 reads_same number bytes x y h e = subst (Reads number bytes) e h
 
 -- the two kinds of the head in the scheme dtn
-null_or_text : (major : ℕ) → ((eqb 0 major || (eqb 3 major || false)) ≡ true) → eqb major 0 ≡ false → major ≡ 3
+pub null_or_text : (major : ℕ) → ((eqb 0 major || (eqb 3 major || false)) ≡ true) → eqb major 0 ≡ false → major ≡ 3
 null_or_text major among other = grind (arith, nat_tests)
 
 text_means : (laws : HeadLaws) (bytes : List ℕ) (head : Head) (rest : List ℕ) (x : Eid × List ℕ) → ReadsHead (0 ∷ 3 ∷ []) bytes head rest → head.major ≡ 3
@@ -86,7 +86,7 @@ text_means laws bytes head rest x h three e =
     let both = Takes-then bytes (head_spelling 3 (length b.0.0)) rest b.0.0 b.0.1 (took (0 ∷ 3 ∷ []) bytes head rest (head_spelling 3 (length b.0.0)) text h) c.0 in
     reads_same 1 bytes (Dtn b.0.0, b.0.1) x (record { takes = both; fits = c.2; number_is = refl }) (ok_is (Dtn b.0.0, b.0.1) x b.2)
 
-chosen : {A : Type 0} (b : Bool) (x y z : A) → cond b x y ≡ z → ((b ≡ true) × (x ≡ z)) ⊎ ((b ≡ false) × (y ≡ z))
+pub chosen : {A : Type 0} (b : Bool) (x y z : A) → cond b x y ≡ z → ((b ≡ true) × (x ≡ z)) ⊎ ((b ≡ false) × (y ≡ z))
 chosen true x y z e = inl (refl, e)
 chosen false x y z e = inr (refl, e)
 

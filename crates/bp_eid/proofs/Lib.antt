@@ -9,3 +9,6 @@ pub mod Decimals
 pub mod Texts
 pub mod Growing
 pub mod Answered
+pub mod Here
+pub mod Reached
+pub mod IdsReached

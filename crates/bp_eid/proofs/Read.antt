@@ -1,5 +1,5 @@
 -- What reading an id answers of a whole input.
-use Rattle.std.proofs.Common.{◌≡◌, ℕ, ◌+◌, ◌-◌, ◌≤◌, List, ◌++◌, length, take, Result, Ok, Err, refl, ◌∙◌, ap, subst, arith}
+use Rattle.std.proofs.Common.{◌≡◌, ℕ, ◌+◌, ◌-◌, ◌<◌, ◌≤◌, List, [], ◌∷◌, ◌++◌, length, take, Result, Ok, Err, refl, sym, ◌∙◌, ap, subst, append-nil, arith}
 use Rattle.std.specs.Prelude.{IfOk}
 use Rattle.std.proofs.lemmas.List.{length-append, take_at}
 use Rattle.cbor_profile.specs.declared.fault.SpellError.{SpellError}
@@ -8,7 +8,7 @@ use Rattle.bp_eid.specs.declared.reading.EidAt.{EidAt}
 use Rattle.bp_eid.specs.declared.stop.Stop.{Stop}
 use Rattle.bp_eid.specs.EndpointId.{spelling, Fits}
 use Rattle.bp_eid.specs.Reading.{answer, id_at, read_id, Answers}
-use Rattle.bp_eid.proofs.Steps.{IsBytes}
+use Rattle.bp_eid.proofs.Steps.{IsBytes, ok_is}
 use Rattle.bp_eid.proofs.Tokens.{HeadLaws}
 use Rattle.bp_eid.proofs.Ids.{id_again, id_means}
 
@@ -44,3 +44,18 @@ read_again laws eid rest fits =
 pub is_read : (laws : HeadLaws) (bytes : List ℕ) (r : Result EidAt SpellError) (eid : Eid) (rest : List ℕ) → Answers r (read_id bytes) → Fits eid → bytes ≡ spelling eid ++ rest
     → Answers r (Ok (record { eid = eid; len = length (spelling eid) }))
 is_read laws bytes r eid rest h fits parts = subst (Answers r) (ap read_id parts ∙ read_again laws eid rest fits) h
+
+-- an id and nothing more is read so
+pub whole_again : ((eid : Eid) (rest : List ℕ) → Fits eid → id_at (spelling eid ++ rest) ≡ Ok (eid, rest)) → (bytes : List ℕ) (eid : Eid) → Fits eid → bytes ≡ spelling eid → id_at bytes ≡ Ok (eid, [])
+whole_again again bytes eid fits e = ap id_at (e ∙ sym (append-nil (spelling eid))) ∙ again eid [] fits
+
+-- what is read with nothing left is an id and nothing more
+pub whole_means : (bytes : List ℕ) (eid : Eid) (rest : List ℕ) → (bytes ≡ spelling eid ++ rest) × Fits eid → length rest < 1 → (bytes ≡ spelling eid) × Fits eid
+whole_means bytes eid [] m none = (m.0 ∙ append-nil (spelling eid), m.1)
+whole_means bytes eid (b ∷ rest) m none = absurd (omega arith)
+
+-- one reading gives one id and leaves one rest
+pub same_read : (r : Result (Eid × List ℕ) Stop) (a b : Eid) (x y : List ℕ) → r ≡ Ok (a, x) → r ≡ Ok (b, y) → (a ≡ b) × (x ≡ y)
+same_read r a b x y e f =
+    let both = ok_is (a, x) (b, y) (sym e ∙ f) in
+    (ap (λ (p : Eid × List ℕ). p.0) both, ap (λ (p : Eid × List ℕ). p.1) both)

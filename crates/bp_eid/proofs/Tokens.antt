@@ -89,7 +89,7 @@ pub spelled : (head : Head) (major value : ℕ) → head.major ≡ major → hea
 unfolding spelling
 spelled head major value e f = rw (e, f) refl
 
-one_kind : (kind major : ℕ) → is_among (kind ∷ []) major ≡ true → major ≡ kind
+pub one_kind : (kind major : ℕ) → is_among (kind ∷ []) major ≡ true → major ≡ kind
 one_kind kind major e = sym (eqb-true _ _ (or_false (eqb kind major) e))
   where
     or_false : (b : Bool) → (b || false) ≡ true → b ≡ true

@@ -14,27 +14,27 @@ use Rattle.bp_eid.specs.Reading.{◌>>=◌, stops, at_token, head_at, pair_at, n
 use Rattle.bp_eid.proofs.Tokens.{is_among, among_ok, after_ok}
 
 -- what is left of a value, or the stop
-pub IsWithin : {A : Type 0} → (A → ℕ) → ℕ → Result A Stop → Type 0
+unfoldable pub IsWithin : {A : Type 0} → (A → ℕ) → ℕ → Result A Stop → Type 0
 IsWithin left given (Ok x) = left x ≤ given
 IsWithin left given (Err stop) = stop.left ≤ given
 
 abbrev pub rest_of : {A : Type 0} → A × List ℕ → ℕ
 rest_of x = length x.1
 
-then_within : {A B : Type 0} (left : A → ℕ) (left' : B → ℕ) (given : ℕ) (r : Result A Stop) (f : A → Result B Stop) → IsWithin left given r → ((x : A) → left x ≤ given → IsWithin left' given (f x)) → IsWithin left' given (r >>= f)
+pub then_within : {A B : Type 0} (left : A → ℕ) (left' : B → ℕ) (given : ℕ) (r : Result A Stop) (f : A → Result B Stop) → IsWithin left given r → ((x : A) → left x ≤ given → IsWithin left' given (f x)) → IsWithin left' given (r >>= f)
 unfolding IsWithin
 then_within left left' given (Ok x) f h g = g x h
 then_within left left' given (Err stop) f h g = h
 
-either_within : {A : Type 0} (left : A → ℕ) (given : ℕ) (b : Bool) (x y : Result A Stop) → IsWithin left given x → IsWithin left given y → IsWithin left given (cond b x y)
+pub either_within : {A : Type 0} (left : A → ℕ) (given : ℕ) (b : Bool) (x y : Result A Stop) → IsWithin left given x → IsWithin left given y → IsWithin left given (cond b x y)
 either_within left given true x y h g = h
 either_within left given false x y h g = g
 
-stops_within : {A : Type 0} (left : A → ℕ) (given : ℕ) (bytes : List ℕ) (reason : Reason) → length bytes ≤ given → IsWithin left given (stops bytes reason)
+pub stops_within : {A : Type 0} (left : A → ℕ) (given : ℕ) (bytes : List ℕ) (reason : Reason) → length bytes ≤ given → IsWithin left given (stops bytes reason)
 unfolding IsWithin
 stops_within left given bytes reason h = h
 
-ok_within : {A : Type 0} (left : A → ℕ) (given : ℕ) (x : A) → left x ≤ given → IsWithin left given (Ok x)
+pub ok_within : {A : Type 0} (left : A → ℕ) (given : ℕ) (x : A) → left x ≤ given → IsWithin left given (Ok x)
 unfolding IsWithin
 ok_within left given x h = h
 
@@ -51,16 +51,16 @@ unfolding IsWithin
 at_token_within given bytes (Ok x) le h = omega (arith, h x refl)
 at_token_within given bytes (Err reason) le h = le
 
-head_within : (kinds : List ℕ) (given : ℕ) (bytes : List ℕ) → length bytes ≤ given → IsWithin rest_of given (head_at kinds bytes)
+pub head_within : (kinds : List ℕ) (given : ℕ) (bytes : List ℕ) → length bytes ≤ given → IsWithin rest_of given (head_at kinds bytes)
 head_within kinds given bytes le = at_token_within given bytes (token_head kinds bytes) le (λ x e. token_within kinds bytes x e)
 
-pair_within : (given : ℕ) (bytes : List ℕ) → length bytes ≤ given → IsWithin length given (pair_at bytes)
+pub pair_within : (given : ℕ) (bytes : List ℕ) → length bytes ≤ given → IsWithin length given (pair_at bytes)
 unfolding pair_at
 pair_within given bytes le =
     then_within rest_of length given (head_at (4 ∷ []) bytes) (λ head. cond (eqb head.0.value 2) (Ok head.1) (stops bytes WrongCount)) (head_within (4 ∷ []) given bytes le)
     (λ x h. either_within length given (eqb x.0.value 2) (Ok x.1) (stops bytes WrongCount) (ok_within length given x.1 h) (stops_within length given bytes WrongCount le))
 
-number_within : (given : ℕ) (bytes : List ℕ) → length bytes ≤ given → IsWithin rest_of given (number_at bytes)
+pub number_within : (given : ℕ) (bytes : List ℕ) → length bytes ≤ given → IsWithin rest_of given (number_at bytes)
 unfolding number_at
 number_within given bytes le =
     then_within rest_of rest_of given (head_at (0 ∷ []) bytes) (λ head. Ok (head.0.value, head.1)) (head_within (0 ∷ []) given bytes le) (λ x h. ok_within rest_of given (x.0.value, x.1) h)

@@ -35,6 +35,12 @@ Fits Null = Unit {0}
 Fits (Dtn text) = IsDtnText text
 Fits (Ipn node service) = (node < 2 ^ 64) × (service < 2 ^ 64)
 
+-- it has a text, which takes memory
+abbrev pub HasText : Eid → Type 0
+HasText Null = ⊥
+HasText (Dtn text) = Unit {0}
+HasText (Ipn node service) = ⊥
+
 -- Both name endpoints of one node: both are of the scheme ipn and have one node number (section 4.2.5.1.2), or both are of
 -- the scheme dtn and have one node name (section 4.2.5.1.1), which isn't empty. That an empty name is of no node is this
 -- profile's.

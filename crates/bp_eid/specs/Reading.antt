@@ -1,6 +1,6 @@
 -- Reading an endpoint id from the front of a byte list, token by token (RFC 9171, section 4.2.5; RFC 8949, section 3). A
 -- token is a head, or the content of a text string.
-use Rattle.std.specs.Prelude.{◌≡◌, ℕ, ◌-◌, ◌==◌, nat_lt, if◌then◌else◌, List, [], ◌∷◌, length, take, drop, Result, Ok, Err, IsOk}
+use Rattle.std.specs.Prelude.{◌≡◌, ℕ, ◌-◌, ◌==◌, nat_lt, if◌then◌else◌, List, [], ◌∷◌, length, take, drop, Result, Ok, Err, IsOkAnd}
 use Rattle.cbor_profile.specs.declared.head.Head.{Head}
 use Rattle.cbor_profile.specs.declared.fault.Reason.{Reason}
 use Rattle.cbor_profile.specs.declared.fault.Reason.TheVariants.{Truncated, WrongCount, WrongValue, WrongText}
@@ -13,6 +13,7 @@ use Rattle.bp_eid.specs.declared.eid.Eid.TheVariants.{Null, Dtn, Ipn}
 use Rattle.bp_eid.specs.declared.reading.EidAt.{EidAt}
 use Rattle.bp_eid.specs.declared.stop.Stop.{Stop}
 use Rattle.bp_eid.specs.DtnText.{is_dtn_text}
+use Rattle.bp_eid.specs.EndpointId.{HasText}
 
 -- ---- tokens
 
@@ -100,9 +101,9 @@ read_id bytes = answer bytes (id_at bytes)
 
 -- ---- what a function returned
 
--- an error is that of reading; memory ran out only where reading gives an id
+-- an error is that of reading; memory ran out only where reading gives an id with a text
 abbrev pub IsErrorOf : SpellError → Result EidAt Fault → Type 0
-IsErrorOf errors.NoMemory read = IsOk read
+IsErrorOf errors.NoMemory read = IsOkAnd read (λ at. HasText at.eid)
 IsErrorOf (errors.Fault fault) read = read ≡ Err fault
 
 -- it is what reading gives, or memory ran out

@@ -2,7 +2,7 @@
 use Rattle.std.specs.Prelude.{◌≡◌, ℕ, ◌^◌, ◌<◌, ◌⊎◌, List, ◌∷◌, ◌++◌, length, slice_index, Option, Some, None}
 use Rattle.std.specs.Fmt.{decimal}
 use Rattle.bp_eid.specs.declared.eid.Eid.{Eid}
-use Rattle.bp_eid.specs.EndpointId.{text_form, Fits}
+use Rattle.bp_eid.specs.EndpointId.{text_form, Fits, HasText}
 
 -- A plus stands at the front, or a zero before more.
 abbrev pub IsPadded : List ℕ → Type 0
@@ -23,6 +23,6 @@ abbrev pub IsIdOf : List ℕ → Option Eid → Type 0
 IsIdOf text None = (eid : Eid) → Fits eid → text ≡ text_form eid → ⊥
 IsIdOf text (Some eid) = Fits eid × (text ≡ text_form eid)
 
--- it is the text of some id
+-- it is the text of an id that has one of its own
 abbrev pub IsIdText : List ℕ → Type 0
-IsIdText text = (eid : Eid) × Fits eid × (text ≡ text_form eid)
+IsIdText text = (eid : Eid) × HasText eid × Fits eid × (text ≡ text_form eid)

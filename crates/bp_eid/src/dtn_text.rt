@@ -28,6 +28,27 @@ impl Model for DtnText {
     ghost invariant = { λ t. IsDtnText t.content };
 }
 
+/// Two texts are equal exactly where they are the same bytes.
+impl PartialEq for DtnText {
+    ghost use Rattle.std.specs.Str.{bytes_eq};
+    ghost use Rattle.std.specs.Cmp as Cmp;
+    ghost use Rattle.std.specs.Cmp.Lexicographic.{nat_list_eq_equiv};
+
+    ghost eq = { λ a b. bytes_eq a b };
+
+    ghost laws = { Cmp.partial_equiv_from_equiv nat_list_eq_equiv };
+
+    fn eq(&self, other: &DtnText) -> bool {
+        self.content == other.content
+    }
+}
+
+impl Eq for DtnText {
+    ghost use Rattle.std.specs.Cmp.Lexicographic.{nat_list_eq_equiv};
+
+    ghost laws = { nat_list_eq_equiv };
+}
+
 /// Whether every byte is a visible character.
 fn all_visible(text: &[u8]) -> bool
     ensures { result ≡ list_all is_visible text.now }

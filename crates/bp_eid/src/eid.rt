@@ -8,7 +8,7 @@ use cbor_profile::NoMemory;
 use std::alloc::Global;
 
 /// An endpoint id (RFC 9171, section 4.2.5).
-#[derive(Debug, Drop)]
+#[derive(Debug, PartialEq, Eq, Drop)]
 pub enum Eid {
     /// The null id, `dtn:none`.
     Null,
@@ -32,6 +32,13 @@ impl Eid {
                 service: *service,
             }),
         }
+    }
+
+    /// Whether both are the same id, as `==` says. Takes no memory.
+    pub fn is(&self, other: &Eid) -> bool
+        ensures { IsTrue result ↔ (self.now ≡ other.now) }
+    {
+        self == other
     }
 
     /// Whether the two ids name endpoints of one node. Takes no memory.

@@ -1,10 +1,11 @@
 //! Laws over the definitions of this crate. Each is the contract of a function that does nothing but name the laws that it
 //! follows from.
 
-ghost use Rattle.std.specs.Prelude.{◌≡◌, ◌≢◌, ◌+◌, ◌<◌, ◌≤◌, ◌++◌, ℕ, List, Ok, Err, length, slice_index};
+ghost use Rattle.std.specs.Prelude.{◌≡◌, ◌≢◌, ◌+◌, ◌<◌, ◌≤◌, ◌++◌, ◌⊎◌, ℕ, List, Ok, Err, length, slice_index};
 ghost use Rattle.cbor_profile.specs.declared.fault.Fault.{Fault};
 ghost use Rattle.cbor_profile.specs.declared.fault.Reason.TheVariants.{Truncated};
 ghost use Rattle.bp_eid.specs.EndpointId.{spelling, text_form, Fits};
+ghost use Rattle.bp_eid.specs.Prefix.{Begins, EndsInShortText, IsId, before_stop};
 ghost use Rattle.bp_eid.specs.Reading.{id_at, read_id};
 ghost use Rattle.bp_eid.specs.declared.eid.Eid.{Eid};
 ghost use Rattle.bp_eid.specs.declared.reading.EidAt.{EidAt};
@@ -53,3 +54,14 @@ pub fn answers_stay_the_same()
     ensures id { (bytes more : List ℕ) (at : EidAt) → read_id bytes ≡ Ok at → read_id (bytes ++ more) ≡ Ok at }
     ensures fault { (bytes more : List ℕ) (fault : Fault) → read_id bytes ≡ Err fault → fault.reason ≢ Truncated → read_id (bytes ++ more) ≡ Err fault }
 {}
+
+/// What stands before the token at which reading stops begins the spelling of some id, but where it ends in the head of a
+/// text of fewer than three bytes: such an id is refused only at the content of its text. With the faulty token, unless the
+/// bytes end too early, no spelling begins so.
+pub fn faulty_tokens_stand_behind_a_correct_prefix()
+    ensures before { (bytes : List ℕ) (stop : Stop) → ((i : ℕ) → slice_index bytes i < 256) → id_at bytes ≡ Err stop
+        → Begins IsId (before_stop bytes stop) ⊎ EndsInShortText (before_stop bytes stop) }
+    ensures with_it { (bytes : List ℕ) (stop : Stop) → id_at bytes ≡ Err stop → stop.reason ≢ Truncated → Begins IsId bytes → ⊥ }
+{
+    laws::heads_are_read_as_spelled();
+}

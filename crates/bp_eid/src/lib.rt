@@ -4,7 +4,7 @@
 mod dtn_text;
 mod eid;
 pub mod laws;
-mod reading;
+pub mod reading;
 mod stop;
 mod text;
 mod writing;
@@ -12,6 +12,7 @@ mod writing;
 pub use dtn_text::DtnText;
 pub use eid::Eid;
 pub use reading::EidAt;
+pub use stop::{ReadError, Stop};
 
 #[cfg(test)]
 mod tests;

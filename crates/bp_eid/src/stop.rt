@@ -1,4 +1,4 @@
-//! Where reading an endpoint id stops.
+//! Where reading stops.
 
 ghost use Rattle.std.specs.Prelude.{◌≡◌, ◌≤◌};
 ghost use Rattle.bp_eid.specs.declared.stop.ReadError.TheVariants as errors;
@@ -31,7 +31,7 @@ impl Stop {
     }
 }
 
-/// Why no id was read.
+/// Why nothing was read.
 #[derive(Clone, Copy, Debug, PartialEq, Eq)]
 pub enum ReadError {
     Stop(Stop),

@@ -63,7 +63,7 @@ fn after<'a>(text: &'a str, front: &str) -> Option<&'a str>
 
 /// The id whose text this is.
 fn parse(alloc: Global, text: &str) -> Result<Option<Eid>, NoMemory>
-    ensures found { IfOk result (IsIdOf text.now) }
+    ensures means { IfOk result (IsIdOf text.now) }
     ensures memory { OnErr result (IsIdText text.now) }
 {
     if text == "dtn:none" {
@@ -91,8 +91,8 @@ impl Eid {
         // What is found has this text.
         ensures some { IfOk result (λ found. IfSome found (λ eid. Fits eid × (text.now ≡ text_form eid))) }
         ensures none { IfOk result (λ found. IfNone found ((eid : Eid) → Fits eid → text.now ≡ text_form eid → ⊥)) }
-        // Every text is found, unless memory runs out, and it runs out only at the text of an id.
-        ensures only { (eid : Eid) → Fits eid → text.now ≡ text_form eid → IfOk result (λ found. found ≡ Some eid) }
+        // Every text is found, unless memory runs out, and it runs out only at the text of an id of the scheme dtn.
+        ensures found { (eid : Eid) → Fits eid → text.now ≡ text_form eid → IfOk result (λ found. found ≡ Some eid) }
         ensures memory { OnErr result (IsIdText text.now) }
     {
         parse(alloc, text)
@@ -126,9 +126,6 @@ impl Eid {
     {
         let before = out.len();
         let put = self.put_text_parts(out);
-        if put.is_err() {
-            out.truncate(before);
-        }
-        put
+        out.settle(before, put)
     }
 }

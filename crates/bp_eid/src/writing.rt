@@ -44,10 +44,7 @@ impl Eid {
     {
         let before = out.len();
         let put = self.put_parts(out);
-        if put.is_err() {
-            out.truncate(before);
-        }
-        put
+        out.settle(before, put)
     }
 }
 
