@@ -1,19 +1,21 @@
 //! Canonical blocks (RFC 9171, section 4.3.2).
 
-ghost use Rattle.std.specs.Prelude.{◌≡◌, ◌<◌, ◌≤◌, ◌+◌, ◌^◌, ◌++◌, ℕ, List, length, take, OnOk, OnErr, IfOk};
-ghost use Rattle.bp_crc.specs.Check.{IsWidth, check};
+ghost use Rattle.std.specs.Prelude.{◌≡◌, ◌↔◌, IsTrue, ◌<◌, ◌≤◌, ◌+◌, ◌^◌, ◌++◌, ℕ, List, length, take, OnOk, OnErr, IfOk};
+ghost use Rattle.bp_crc.specs.Check.{check_bytes};
+ghost use Rattle.bp_crc.specs.Checking.{bytes_of};
 ghost use Rattle.bp_crc.specs.Item.{zeros};
 ghost use Rattle.cbor_profile.specs.Feeds.{Feeds};
 
 use crate::counted::Counted;
-use bp_crc::{CheckKind, Crc};
+use bp_crc::laws::what_is_fixed_names_the_kind;
+use bp_crc::{CheckBytes, CheckKind, Checking};
 use cbor_profile::{
     Bytes, Feed, NoMemory, feed_array, feed_bytes, feed_uint, put_array, put_bytes, put_uint,
 };
 use std::alloc::Global;
 
 /// A canonical block (RFC 9171, section 4.3.2).
-#[derive(Debug, Drop)]
+#[derive(Debug, PartialEq, Eq, Drop)]
 pub struct Block {
     /// The block type code (section 9.1): 1 is the payload.
     pub kind: u64,
@@ -47,14 +49,13 @@ impl Block {
     }
 
     /// The check over the array whose check bytes are zero.
-    fn check<const BITS: usize>(&self) -> u32
-        requires { IsWidth BITS }
-        ensures value { result ≡ check BITS (array_with self.now (zeros self.now.crc)) }
-        ensures within { result < 2 ^ BITS }
+    fn check(&self) -> CheckBytes
+        ensures { bytes_of result ≡ check_bytes self.now.crc (array_with self.now (zeros self.now.crc)) }
     {
-        let mut crc = Crc::<BITS>::new();
-        self.feed_with(self.crc.zeros(), &mut crc);
-        crc.finish()
+        what_is_fixed_names_the_kind();
+        let mut checking = Checking::new(self.crc);
+        self.feed_with(self.crc.zeros(), &mut checking);
+        checking.finish()
     }
 
     /// Appends the array with these bytes as its check, or a part of it for want of memory.
@@ -78,17 +79,8 @@ impl Block {
         ensures ok { OnOk result (out.new ≡ out.old ++ spelling self.now) }
         ensures err { OnErr result (take (length out.old) out.new ≡ out.old) }
     {
-        match self.crc {
-            CheckKind::None => self.put_with(&[], out),
-            CheckKind::Crc16 => {
-                let check = self.check::<16>() as u16;
-                self.put_with(&check.to_be_bytes(), out)
-            }
-            CheckKind::Crc32c => {
-                let check = self.check::<32>();
-                self.put_with(&check.to_be_bytes(), out)
-            }
-        }
+        let check = self.check();
+        self.put_with(check.as_slice(), out)
     }
 
     /// Appends the spelling, or leaves the bytes as they were for want of memory.
@@ -98,10 +90,7 @@ impl Block {
     {
         let before = out.len();
         let done = self.append(out);
-        if done.is_err() {
-            out.truncate(before);
-        }
-        done
+        out.settle(before, done)
     }
 
     /// How many bytes the spelling has. Takes no memory.
@@ -112,6 +101,13 @@ impl Block {
         let mut counted = Counted { bytes: 0 };
         self.feed_with(self.crc.zeros(), &mut counted);
         counted.bytes
+    }
+
+    /// Whether both are the same block, as `==` says. Takes no memory.
+    pub fn is(&self, other: &Block) -> bool
+        ensures { IsTrue result ↔ (self.now ≡ other.now) }
+    {
+        self == other
     }
 
     /// The same block again.

@@ -3,15 +3,16 @@
 ghost use Rattle.std.specs.Prelude.{◌≡◌, ◌+◌, ◌<◌, ◌≤◌, ◌^◌, ◌++◌, ℕ, List, Some, Err, IfOk, IfSome, MatchResult, IsSomeAnd, OnOk, OnErr, length, take};
 ghost use Rattle.cbor_profile.specs.Head.{head_spelling};
 ghost use Rattle.cbor_profile.specs.Put.{uint};
-ghost use Rattle.bp_eid.specs.EndpointId.{Fits, spelling};
+ghost use Rattle.bp_eid.specs.EndpointId.{Fits, HasText, spelling};
 ghost use Rattle.bp_eid.specs.declared.eid.Eid.{Eid};
 ghost use Rattle.bp_blocks.specs.Bodies.{IsHops, hops};
 ghost use Rattle.bp_blocks.specs.declared.bodies.Hops.{Hops};
 
-use bp_eid::laws::ids_are_read_as_spelled;
-use bp_eid::{Eid, EidAt};
-use cbor_profile::{Bytes, HeadRead, NoMemory, SpellError, head_at, put_array, put_uint};
+use bp_eid::Eid;
+use cbor_profile::{Bytes, HeadRead, NoMemory, head_at, put_array, put_uint};
 use std::alloc::Global;
+use std::error::Error;
+use std::fmt;
 
 /// Why a body isn't read as an endpoint id.
 #[derive(Clone, Copy, Debug, PartialEq, Eq)]
@@ -20,6 +21,17 @@ pub enum BodyFault {
     Unreadable,
     NoMemory,
 }
+
+impl fmt::Display for BodyFault {
+    fn fmt<W: fmt::Write>(&self, f: &mut fmt::Formatter<W>) -> fmt::Result {
+        match self {
+            BodyFault::Unreadable => f.write_str("no endpoint id"),
+            BodyFault::NoMemory => f.write_str("out of memory"),
+        }
+    }
+}
+
+impl Error for BodyFault {}
 
 /// How many nodes a bundle may pass, and how many it has passed (section 4.4.3).
 #[derive(Clone, Copy, Debug, PartialEq, Eq)]
@@ -31,23 +43,16 @@ pub struct Hops {
 
 /// The id that the body of a previous node block is (section 4.4.1).
 pub fn previous_node(alloc: Global, body: &[u8]) -> Result<Eid, BodyFault>
-    ensures found { IfOk result (λ eid. (body.now ≡ spelling eid) × Fits eid) }
-    ensures only { (eid : Eid) → Fits eid → body.now ≡ spelling eid
+    ensures means { IfOk result (λ eid. (body.now ≡ spelling eid) × Fits eid) }
+    ensures found { (eid : Eid) → Fits eid → body.now ≡ spelling eid
         → MatchResult result (λ found. found ≡ eid) (λ fault. fault ≡ BodyFault.NoMemory) }
-    // Memory runs out only where an id is at the front.
-    ensures memory { result ≡ Err BodyFault.NoMemory → (eid : Eid) × (rest : List ℕ) × Fits eid × (body.now ≡ spelling eid ++ rest) }
+    // Memory runs out only where the body is one id with a text, and nothing more.
+    ensures memory { result ≡ Err BodyFault.NoMemory → (eid : Eid) × HasText eid × Fits eid × (body.now ≡ spelling eid) }
 {
-    ids_are_read_as_spelled();
-    match Eid::read(alloc, body) {
-        Ok(EidAt { eid, len }) => {
-            if len == body.len() {
-                Ok(eid)
-            } else {
-                Err(BodyFault::Unreadable)
-            }
-        }
-        Err(SpellError::Fault(_)) => Err(BodyFault::Unreadable),
-        Err(SpellError::NoMemory) => Err(BodyFault::NoMemory),
+    match Eid::read_whole(alloc, body) {
+        Ok(Some(eid)) => Ok(eid),
+        Ok(None) => Err(BodyFault::Unreadable),
+        Err(NoMemory) => Err(BodyFault::NoMemory),
     }
 }
 
@@ -55,8 +60,8 @@ pub fn previous_node(alloc: Global, body: &[u8]) -> Result<Eid, BodyFault>
 #[tactic(auto, unfolding(cbor_profile::specs::Head::spelling))]
 fn argument_at(major: u8, bytes: &[u8]) -> Option<(u64, &[u8])>
     requires { major < 6 }
-    ensures found { IfSome result (λ x. bytes.now ≡ head_spelling major x.0 ++ x.1.now) }
-    ensures only { (n : ℕ) (rest : List ℕ) → n < 2 ^ 64 → bytes.now ≡ head_spelling major n ++ rest
+    ensures means { IfSome result (λ x. bytes.now ≡ head_spelling major x.0 ++ x.1.now) }
+    ensures found { (n : ℕ) (rest : List ℕ) → n < 2 ^ 64 → bytes.now ≡ head_spelling major n ++ rest
         → IsSomeAnd result (λ x. (x.0 ≡ n) × (x.1.now ≡ rest)) }
 {
     let HeadRead::Whole { head, len } = head_at(bytes) else {
@@ -71,8 +76,8 @@ fn argument_at(major: u8, bytes: &[u8]) -> Option<(u64, &[u8])>
 /// The age in milliseconds that the body of a bundle age block is (section 4.4.2), else None. Takes no memory.
 #[tactic(auto, unfolding(cbor_profile::specs::Put::uint))]
 pub fn age(body: &[u8]) -> Option<u64>
-    ensures found { IfSome result (λ age. body.now ≡ uint age) }
-    ensures only { (age : ℕ) → age < 2 ^ 64 → body.now ≡ uint age → result ≡ Some age }
+    ensures means { IfSome result (λ age. body.now ≡ uint age) }
+    ensures found { (age : ℕ) → age < 2 ^ 64 → body.now ≡ uint age → result ≡ Some age }
 {
     let (age, rest) = argument_at(0, body)?;
     rest.is_empty().then_some(age)
@@ -81,8 +86,8 @@ pub fn age(body: &[u8]) -> Option<u64>
 /// The limit and the count that the body of a hop count block is (section 4.4.3), else None. Takes no memory.
 #[tactic(auto, unfolding(crate::specs::Bodies::hops, cbor_profile::specs::Put::uint, cbor_profile::specs::Put::array_head))]
 pub fn hop_count(body: &[u8]) -> Option<Hops>
-    ensures found { IfSome result (λ found. IsHops found × (body.now ≡ hops found)) }
-    ensures only { (value : Hops) → IsHops value → body.now ≡ hops value → result ≡ Some value }
+    ensures means { IfSome result (λ found. IsHops found × (body.now ≡ hops found)) }
+    ensures found { (value : Hops) → IsHops value → body.now ≡ hops value → result ≡ Some value }
 {
     let (items, rest) = argument_at(4, body)?;
     let (limit, rest) = argument_at(0, rest)?;
@@ -108,10 +113,7 @@ pub fn put_hops(out: &mut Bytes, value: Hops) -> Result<(), NoMemory>
 {
     let before = out.len();
     let done = append_hops(out, value);
-    if done.is_err() {
-        out.truncate(before);
-    }
-    done
+    out.settle(before, done)
 }
 
 #[tactic(auto, unfolding(crate::specs::Bodies::hops))]

@@ -8,6 +8,7 @@ pub mod laws;
 
 pub use block::Block;
 pub use bodies::{BodyFault, Hops, age, hop_count, previous_node, put_age, put_hops};
+pub use bp_crc::{CheckKind, Feed};
 
 #[cfg(test)]
 mod tests;

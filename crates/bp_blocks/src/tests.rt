@@ -103,6 +103,7 @@ fn hop_counts(rt: HostRuntime) -> Result<(), Fail> {
         })
     );
     assert_eq!(rt; hop_count(b"\x82\x00\x18\x1e"), None);
+    assert_eq!(rt; hop_count(b"\x82\x00\x1e"), None);
     assert_eq!(rt; hop_count(b"\x82\x19\x01\x00\x00"), None);
     let mut out = Bytes::new(rt.alloc());
     put_hops(

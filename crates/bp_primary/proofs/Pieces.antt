@@ -43,6 +43,10 @@ few_check_items None = omega arith
 few_check_items Crc16 = omega arith
 few_check_items Crc32c = omega arith
 
+pub at_most_items : (primary : Primary) → 8 + fragment_count primary.fragment + check_count primary.crc ≤ 11
+at_most_items primary =
+    let fragment = few_fragment_items primary.fragment in let check = few_check_items primary.crc in omega arith
+
 -- small numbers of items, and small check types
 pub few_items : (primary : Primary) → 8 + fragment_count primary.fragment + check_count primary.crc < 24
 few_items primary = let fragment = few_fragment_items primary.fragment in let check = few_check_items primary.crc in omega arith

@@ -1,13 +1,15 @@
 //! Primary blocks.
 
 ghost use Rattle.std.specs.Prelude.{◌≡◌, ◌+◌, ◌%◌, ◌^◌, ◌<◌, ◌≤◌, ◌↔◌, ◌++◌, length, take, is_some, IsSome, IsTrue, IfOk, OnOk, OnErr};
-ghost use Rattle.bp_crc.specs.Check.{IsWidth, check};
+ghost use Rattle.bp_crc.specs.Check.{check_bytes};
+ghost use Rattle.bp_crc.specs.Checking.{bytes_of};
 ghost use Rattle.bp_crc.specs.Item.{zeros};
 ghost use Rattle.cbor_profile.specs.Feeds.{Feeds};
 ghost use Rattle.bp_primary.specs.Flags.{is_fragment};
 
 use crate::fragment::{feed_fragment, fragment_size, put_fragment};
-use bp_crc::{CheckKind, Crc};
+use bp_crc::laws::what_is_fixed_names_the_kind;
+use bp_crc::{CheckBytes, CheckKind, Checking};
 use bp_eid::Eid;
 use cbor_profile::{Bytes, Feed, NoMemory, uint_size};
 use std::alloc::Global;
@@ -44,6 +46,41 @@ pub struct Primary {
 impl Primary {
     ghost use Rattle.bp_primary.specs.Spelling.{IsPrimary, array_with, spelling};
 
+    /// Whether the three ids are the same.
+    fn has_nodes_of(&self, other: &Primary) -> bool
+        ensures { IsTrue result ↔ ((self.now.destination ≡ other.now.destination) × (self.now.source ≡ other.now.source)
+            × (self.now.report_to ≡ other.now.report_to)) }
+    {
+        self.destination.is(&other.destination)
+            && self.source.is(&other.source)
+            && self.report_to.is(&other.report_to)
+    }
+
+    /// Whether the times are the same.
+    fn has_times_of(&self, other: &Primary) -> bool
+        ensures { IsTrue result ↔ ((self.now.created ≡ other.now.created) × (self.now.sequence ≡ other.now.sequence)
+            × (self.now.lifetime ≡ other.now.lifetime)) }
+    {
+        self.created == other.created
+            && self.sequence == other.sequence
+            && self.lifetime == other.lifetime
+    }
+
+    /// Whether the flags, the kind of check and the place of a fragment are the same.
+    fn has_front_of(&self, other: &Primary) -> bool
+        ensures { IsTrue result ↔ ((self.now.flags ≡ other.now.flags) × (self.now.crc ≡ other.now.crc)
+            × (self.now.fragment ≡ other.now.fragment)) }
+    {
+        self.flags == other.flags && self.crc == other.crc && self.fragment == other.fragment
+    }
+
+    /// Whether both are the same block. Takes no memory.
+    pub fn is(&self, other: &Primary) -> bool
+        ensures { IsTrue result ↔ (self.now ≡ other.now) }
+    {
+        self.has_front_of(other) && self.has_nodes_of(other) && self.has_times_of(other)
+    }
+
     /// Whether the bundle is a fragment. Takes no memory.
     pub fn is_fragment(&self) -> bool
         ensures flag { IsTrue result ↔ (self.now.flags % 2 ≡ 1) }
@@ -52,8 +89,8 @@ impl Primary {
         self.fragment.is_some()
     }
 
-    /// Feeds the array with these bytes as its check.
-    fn feed_with<F: Feed>(&self, check: &[u8], into: &mut F)
+    /// Feeds the array with these bytes as its check. Takes no memory.
+    pub fn feed_with<F: Feed>(&self, check: &[u8], into: &mut F)
         ensures stands { Feeds F.stands_for F.MOST into.old into.new (array_with self.now check.now) }
         ensures fixed { F.fixed into.new ≡ F.fixed into.old }
     {
@@ -90,14 +127,13 @@ impl Primary {
     }
 
     /// The check over the array whose check bytes are zero.
-    fn check<const BITS: usize>(&self) -> u32
-        requires { IsWidth BITS }
-        ensures value { length (spelling self.now) < 2 ^ 64 → result ≡ check BITS (array_with self.now (zeros self.now.crc)) }
-        ensures within { result < 2 ^ BITS }
+    fn check(&self) -> CheckBytes
+        ensures { length (spelling self.now) < 2 ^ 64 → bytes_of result ≡ check_bytes self.now.crc (array_with self.now (zeros self.now.crc)) }
     {
-        let mut crc = Crc::<BITS>::new();
-        self.feed_with(self.crc.zeros(), &mut crc);
-        crc.finish()
+        what_is_fixed_names_the_kind();
+        let mut checking = Checking::new(self.crc);
+        self.feed_with(self.crc.zeros(), &mut checking);
+        checking.finish()
     }
 
     /// Feeds the spelling. Takes no memory.
@@ -107,17 +143,8 @@ impl Primary {
     {
         // Read so that it is known to be a number of 64 bits.
         let _most = F::MOST;
-        match self.crc {
-            CheckKind::None => self.feed_with(&[], into),
-            CheckKind::Crc16 => {
-                let check = self.check::<16>() as u16;
-                self.feed_with(&check.to_be_bytes(), into)
-            }
-            CheckKind::Crc32c => {
-                let check = self.check::<32>();
-                self.feed_with(&check.to_be_bytes(), into)
-            }
-        }
+        let check = self.check();
+        self.feed_with(check.as_slice(), into);
     }
 
     /// Appends the spelling, or a part of it for want of memory.
@@ -127,17 +154,8 @@ impl Primary {
         ensures err { OnErr result (take (length out.old) out.new ≡ out.old) }
     {
         out.reserve(self.size() as usize)?;
-        match self.crc {
-            CheckKind::None => self.put_with(&[], out),
-            CheckKind::Crc16 => {
-                let check = self.check::<16>() as u16;
-                self.put_with(&check.to_be_bytes(), out)
-            }
-            CheckKind::Crc32c => {
-                let check = self.check::<32>();
-                self.put_with(&check.to_be_bytes(), out)
-            }
-        }
+        let check = self.check();
+        self.put_with(check.as_slice(), out)
     }
 
     /// Appends the spelling, or leaves the bytes as they were for want of memory.
@@ -147,10 +165,7 @@ impl Primary {
     {
         let before = out.len();
         let done = self.append(out);
-        if done.is_err() {
-            out.truncate(before);
-        }
-        done
+        out.settle(before, done)
     }
 
     /// The same block again.

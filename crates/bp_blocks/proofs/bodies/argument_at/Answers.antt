@@ -21,18 +21,18 @@ reads bytes read major n rest finds kind fits e =
 pub returns-in_default : goal.returns-in_default
 unfolding Finds
 returns-in_default c = record {
-  found = tt;
-  only = λ n rest fits e. c.in_default.not-Whole _ _ (reads c.args.bytes.now c.head_at.result c.args.major n rest c.head_at.ensures.found c.requires fits e).0;
+  means = tt;
+  found = λ n rest fits e. c.in_default.not-Whole _ _ (reads c.args.bytes.now c.head_at.result c.args.major n rest c.head_at.ensures.found c.requires fits e).0;
 }
 
-pub returns-then-head-major-clause-only : goal.returns-then-head-major-clause-only
+pub returns-then-head-major-clause-found : goal.returns-then-head-major-clause-found
 unfolding Finds
-returns-then-head-major-clause-only c = λ n rest fits e.
+returns-then-head-major-clause-found c = λ n rest fits e.
     let there = reads c.args.bytes.now c.head_at.result c.args.major n rest c.head_at.ensures.found c.requires fits e in
     grind (arith, there, c.in-Whole.is, c.if-head-major.true)
 
-pub returns-clause-only : goal.returns-clause-only
+pub returns-clause-found : goal.returns-clause-found
 unfolding Finds
-returns-clause-only c = λ n rest fits e.
+returns-clause-found c = λ n rest fits e.
     let there = reads c.args.bytes.now c.head_at.result c.args.major n rest c.head_at.ensures.found c.requires fits e in
     grind (arith, common_steps, there, c.in-Whole.is)

@@ -12,18 +12,18 @@ heads value =
     append_assoc (head_spelling 4 2) (head_spelling 0 value.limit) (head_spelling 0 value.count)
     ∙ rw append-nil refl
 
-pub returns-in_err-items-clause-only : goal.returns-in_err-items-clause-only
-returns-in_err-items-clause-only c = λ value fits e. absurd (c.in_err-items.ensures.only 2 _ (omega arith) (e ∙ heads value))
+pub returns-in_err-items-clause-found : goal.returns-in_err-items-clause-found
+returns-in_err-items-clause-found c = λ value fits e. absurd (c.in_err-items.ensures.found 2 _ (omega arith) (e ∙ heads value))
 
-pub returns-in_err-count-clause-only : goal.returns-in_err-count-clause-only
-returns-in_err-count-clause-only c = λ value fits e.
-    let items = c.in_ok-items.ensures.only 2 _ (omega arith) (e ∙ heads value) in
-    let limit = c.in_ok-limit.ensures.only value.limit _ (omega arith) items.1 in
-    absurd (c.in_err-count.ensures.only value.count _ fits.2 limit.1)
+pub returns-in_err-count-clause-found : goal.returns-in_err-count-clause-found
+returns-in_err-count-clause-found c = λ value fits e.
+    let items = c.in_ok-items.ensures.found 2 _ (omega arith) (e ∙ heads value) in
+    let limit = c.in_ok-limit.ensures.found value.limit _ (omega arith) items.1 in
+    absurd (c.in_err-count.ensures.found value.count _ fits.2 limit.1)
 
-pub returns-clause-only : goal.returns-clause-only
-returns-clause-only c = λ value fits e.
-    let items = c.in_ok-items.ensures.only 2 _ (omega arith) (e ∙ heads value) in
-    let limit = c.in_ok-limit.ensures.only value.limit _ (omega arith) items.1 in
-    let count = c.in_ok-count.ensures.only value.count _ fits.2 limit.1 in
+pub returns-clause-found : goal.returns-clause-found
+returns-clause-found c = λ value fits e.
+    let items = c.in_ok-items.ensures.found 2 _ (omega arith) (e ∙ heads value) in
+    let limit = c.in_ok-limit.ensures.found value.limit _ (omega arith) items.1 in
+    let count = c.in_ok-count.ensures.found value.count _ fits.2 limit.1 in
     grind (arith, items, limit, count, fits)
