@@ -1,0 +1,13 @@
+pub mod Shape
+pub mod Spelling
+pub mod Faults
+pub mod Edits
+pub mod InsertAnswer
+pub mod Tokens
+pub mod FirstFault
+pub mod Step
+pub mod Running
+pub mod HeaderText
+pub mod Machine
+pub mod Taking
+pub mod WholeInput
