@@ -1,0 +1,82 @@
+-- What is answered to a whole body when bytes are added.
+use Rattle.std.proofs.Common.{◌≡◌, ◌≢◌, ℕ, ◌+◌, ◌-◌, List, [], ◌∷◌, ◌++◌, length, Result, Ok, Err, refl, sym, ◌∙◌, ap, arith}
+use Rattle.std.proofs.lemmas.List.{length-append}
+use Rattle.cbor_profile.specs.declared.fault.Fault.{Fault}
+use Rattle.cbor_profile.specs.declared.fault.Reason.{Reason}
+use Rattle.cbor_profile.specs.declared.fault.Reason.TheVariants as reasons
+use Rattle.bp_eid.specs.declared.stop.Stop.{Stop}
+use Rattle.bp_eid.specs.Reading.{◌>>=◌, stops, place_of, fault_of}
+use Rattle.bp_eid.proofs.Growing.{with_more, grown, Stays}
+use Rattle.bp_eid.proofs.Answered.{place_stays}
+use Rattle.bpsec_asb.specs.declared.asb.Asb.{Asb}
+use Rattle.bpsec_asb.specs.SecurityBlock.{spelling, IsSecurityBlock}
+use Rattle.bpsec_asb.specs.Reading.{asb_at, ends, body_at, answer, read_body}
+use Rattle.bp_eid.specs.Prefix.{Begins}
+use Rattle.bpsec_asb.specs.Prefix.{IsSpelling}
+use Rattle.bpsec_asb.proofs.Blocks.{asb_again, body_again, ok_of_asb}
+use Rattle.bpsec_asb.proofs.Growing.{asb_grows}
+
+-- one spelling, and none is a proper prefix of another
+pub one_spelling : (a b : Asb) (x y : List ℕ) → IsSecurityBlock a → IsSecurityBlock b → spelling a ++ x ≡ spelling b ++ y → (a ≡ b) × (x ≡ y)
+one_spelling a b x y ha hb e =
+    let same : (a, x) ≡ (b, y) = ok_of_asb (a, x) (b, y) (sym (asb_again a x ha) ∙ (ap asb_at e ∙ asb_again b y hb)) in
+    (ap (λ (p : Asb × List ℕ). p.0) same, ap (λ (p : Asb × List ℕ). p.1) same)
+
+-- where more follows it, a body that was read ends too early
+more_follows : (given : ℕ) (x : Asb × List ℕ) (byte : ℕ) (more : List ℕ) → ends (x.0, x.1 ++ byte ∷ more) ≡ stops (x.1 ++ byte ∷ more) reasons.Trailing
+more_follows given (asb, []) byte more = refl
+more_follows given (asb, b ∷ bs) byte more = refl
+
+-- the stop at which reading ends, with more behind it
+ends_grow : (bytes more : List ℕ) (x : Asb × List ℕ) (stop : Stop) → ends x ≡ Err stop → ends (x.0, x.1 ++ more) ≡ Err (record { reason = stop.reason; left = stop.left + length more })
+ends_grow bytes more (asb, []) stop e = absurd cc
+ends_grow bytes more (asb, b ∷ bs) stop e =
+    let reason : reasons.Trailing ≡ stop.reason = cc in
+    let left : length (b ∷ bs) ≡ stop.left = cc in
+    let all : length ((b ∷ bs) ++ more) ≡ stop.left + length more = length-append (b ∷ bs) more ∙ ap (λ n. n + length more) left in
+    ap (λ (n : ℕ). Err (record { reason = reasons.Trailing; left = n })) all ∙ ap (λ (r : Reason). Err (record { reason = r; left = stop.left + length more })) reason
+
+body_by : (body more : List ℕ) (r : Result (Asb × List ℕ) Stop) (stop : Stop) → asb_at body ≡ r → (r >>= ends) ≡ Err stop → stop.reason ≢ reasons.Truncated
+    → (asb_at (body ++ more) >>= ends) ≡ Err (record { reason = stop.reason; left = stop.left + length more })
+unfolding Stays
+body_by body more (Ok x) stop is e other =
+    ap (λ r. r >>= ends) (asb_grows body more (rw is tt) ∙ ap (grown (with_more more) (length more)) is) ∙ ends_grow body more x stop e
+body_by body more (Err s) stop is e other =
+    let same : s ≡ stop = cc in
+    ap (λ r. r >>= ends) (asb_grows body more (rw (is, same) other) ∙ ap (grown (with_more more) (length more)) is) ∙ ap (λ (s : Stop). Err (record { reason = s.reason; left = s.left + length more })) same
+
+pub body_stays : (body more : List ℕ) (stop : Stop) → body_at body ≡ Err stop → stop.reason ≢ reasons.Truncated → body_at (body ++ more) ≡ Err (record { reason = stop.reason; left = stop.left + length more })
+unfolding body_at
+body_stays body more stop e other = body_by body more (asb_at body) stop refl e other
+
+answered : (given : ℕ) (r : Result Asb Stop) (fault : Fault) → answer given r ≡ Err fault → (stop : Stop) × (r ≡ Err stop) × (fault_of given stop ≡ fault)
+answered given (Ok asb) fault e = absurd cc
+answered given (Err stop) fault e = (stop, refl, cc)
+
+pub fault_stays : (body more : List ℕ) (fault : Fault) → read_body body ≡ Err fault → fault.reason ≢ reasons.Truncated → read_body (body ++ more) ≡ Err fault
+unfolding read_body
+fault_stays body more fault e other =
+    let s = answered (length body) (body_at body) fault e in
+    let reason : s.0.reason ≢ reasons.Truncated = λ early. other (ap (λ (f : Fault). f.reason) (sym s.2) ∙ early) in
+    let all : length (body ++ more) ≡ length body + length more = length-append body more in
+    let place : place_of (length (body ++ more)) s.0.reason (s.0.left + length more) ≡ place_of (length body) s.0.reason s.0.left = rw all (place_stays (length body) s.0.left (length more) s.0.reason reason) in
+    rw (body_stays body more s.0 s.1 reason, place) (ap Err s.2)
+
+-- bytes after a security block are a fault at its end
+pub trailing : (asb : Asb) (byte : ℕ) (more : List ℕ) → IsSecurityBlock asb → read_body (spelling asb ++ byte ∷ more) ≡ Err (record { place = length (spelling asb); reason = reasons.Trailing })
+unfolding read_body body_at
+trailing asb byte more fits =
+    let place : length (spelling asb ++ byte ∷ more) - length (byte ∷ more) ≡ length (spelling asb) = omega (arith, length-append (spelling asb) (byte ∷ more)) in
+    rw (asb_again asb (byte ∷ more) fits, place) refl
+
+-- with a faulty token no spelling begins
+pub begins_none : (body : List ℕ) (stop : Stop) → body_at body ≡ Err stop → stop.reason ≢ reasons.Truncated → Begins IsSpelling body → ⊥
+begins_none body stop e other (whole, (asb, fits, spelled), more, is) =
+    let read : body_at whole ≡ Ok asb = body_again whole asb (fits, spelled) in
+    let stays = body_stays body more stop e other in
+    let clash : body_at whole ≡ Err (record { reason = stop.reason; left = stop.left + length more }) = ap body_at is ∙ stays in
+    not_both (body_at whole) asb _ read clash
+  where
+    not_both : (r : Result Asb Stop) (asb : Asb) (s : Stop) → r ≡ Ok asb → r ≡ Err s → ⊥
+    not_both (Ok x) asb s a b = cc
+    not_both (Err x) asb s a b = cc

@@ -1,0 +1,7 @@
+pub mod SecurityBlock
+pub mod Reading
+pub mod Step
+pub mod Operations
+pub mod Order
+pub mod Known
+pub mod Prefix
