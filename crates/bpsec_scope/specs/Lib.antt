@@ -1,0 +1,4 @@
+pub mod Target
+pub mod Parts
+pub mod Covered
+pub mod View
