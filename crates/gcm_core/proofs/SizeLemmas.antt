@@ -84,16 +84,17 @@ bytes_sum_bytes [] b h g = tt
 bytes_sum_bytes (x ∷ a) [] h g = tt
 bytes_sum_bytes (x ∷ a) (y ∷ b) h g = (xor_of_8 x y h.0 g.0, bytes_sum_bytes a b h.1 g.1)
 
-module _ (e : List ℕ → List ℕ) (iv aad ciphertext : List ℕ) (blocks : GivesBlocks e) where
+module _ (e : List ℕ → List ℕ) (size : (block : List ℕ) → length (e block) ≡ 16) (iv aad ciphertext : List ℕ) where
   pub length-tag_of : length (tag_of e iv aad ciphertext) ≡ 16
   unfolding tag_of
   length-tag_of =
       let bytes : List ℕ = filled aad ++ filled ciphertext ++ (length_in_bits (length aad) ++ length_in_bits (length ciphertext)) in
-      let size : length (block_of (ghash (hash_subkey e) bytes)) ≡ 16 =
+      let whole : length (block_of (ghash (hash_subkey e) bytes)) ≡ 16 =
       length-block_of 16 (ghash (hash_subkey e) bytes) (length-hash_of_blocks (hash_subkey e) bytes (length bytes / 16)) in
-      length-bytes_sum (e (first_block e iv)) (block_of (ghash (hash_subkey e) bytes)) (omega (arith, blocks.size (first_block e iv)))
-      ∙ blocks.size (first_block e iv)
+      length-bytes_sum (e (first_block e iv)) (block_of (ghash (hash_subkey e) bytes)) (omega (arith, size (first_block e iv)))
+      ∙ size (first_block e iv)
 
+module _ (e : List ℕ → List ℕ) (iv aad ciphertext : List ℕ) (blocks : GivesBlocks e) where
   pub tag_of_bytes : All (λ byte. byte < 256) (tag_of e iv aad ciphertext)
   unfolding tag_of
   tag_of_bytes =

@@ -33,7 +33,7 @@ pub fn ciphertext_is_as_long_as_the_body()
 
 /// A tag is 16 bytes.
 pub fn tag_has_sixteen_bytes()
-    ensures length { (e : List ℕ → List ℕ) → (iv aad ciphertext : List ℕ) → GivesBlocks e
+    ensures length { (e : List ℕ → List ℕ) → ((block : List ℕ) → length (e block) ≡ 16) → (iv aad ciphertext : List ℕ)
         → length (tag_of e iv aad ciphertext) ≡ 16 }
     ensures bytes { (e : List ℕ → List ℕ) → (iv aad ciphertext : List ℕ) → GivesBlocks e
         → All (λ byte. byte < 256) (tag_of e iv aad ciphertext) }
