@@ -1,0 +1,5 @@
+use Rattle.bpsec_context.proofs.RightLemmas.{right_is_sealed}
+use Rattle.bpsec_context.proofs.laws.right_is_what_sealing_gives.Goals as goal
+
+pub returns : goal.returns
+returns c = right_is_sealed

@@ -1,0 +1,15 @@
+pub mod Values
+pub mod Pairs
+pub mod Answers
+pub mod Reasons
+pub mod Keys
+pub mod Calls
+pub mod Services
+pub mod Sealer
+pub mod Integrity
+pub mod Confidentiality
+pub mod OnlyTag
+pub mod Tables
+pub mod IntegrityLaws
+pub mod ConfidentialityLaws
+pub mod SuiteLaws
