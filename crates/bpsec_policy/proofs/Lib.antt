@@ -1,0 +1,13 @@
+pub mod Steps
+pub mod EntryLaws
+pub mod Differing
+pub mod Rings
+pub mod Policies
+pub mod Matched
+pub mod Keys
+pub mod Targets
+pub mod Entered
+pub mod Again
+pub mod Whole
+pub mod Plain
+pub mod Lawful

@@ -1,0 +1,11 @@
+pub mod Names
+pub mod Ring
+pub mod RingText
+pub mod Words
+pub mod Rules
+pub mod Policy
+pub mod RuleText
+pub mod PolicyText
+pub mod Matching
+pub mod Ranges
+pub mod Written
