@@ -1,0 +1,4 @@
+pub mod Texts
+pub mod Bodies
+pub mod Covers
+pub mod Lines
