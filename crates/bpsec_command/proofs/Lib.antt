@@ -1,5 +1,2 @@
-mod Parts
-mod FirstForm
-mod Responses
-mod Statuses
-mod Taking
+mod Completeness
+mod Worlds

@@ -1,61 +1,87 @@
--- What the program answers: a status, the bytes for its output, and the bytes for its report.
-use Rattle.std.specs.Prelude.{◌≡◌, ℕ, ◌⊎◌, List, [], ◌∷◌, ◌++◌, length, Option, MatchOption, MatchResult, codes}
+-- What the program answers: a plain function of its words, its files and its input.
+use Rattle.std.specs.Prelude.{ℕ, List, [], ◌∷◌, ◌++◌, length, Result, Ok, Err, codes}
 use Rattle.std.specs.Fmt.{decimal}
+use Rattle.cbor_profile.specs.declared.fault.Fault.{Fault}
+use Rattle.bp_bundle.specs.Shape.{Contents}
+use Rattle.bp_bundle.specs.FirstFault.{read_only}
+use Rattle.bp_bundle.specs.Spelling.{spelling}
+use Rattle.bpsec_explain.specs.Lines.{explanation}
 use Rattle.bpsec_command.specs.declared.answer.Answer.{Answer}
-use Rattle.bpsec_command.specs.declared.answer.Hindrance.{Hindrance}
-use Rattle.bpsec_command.specs.declared.answer.Hindrance.TheVariants as hindrances
+use Rattle.bpsec_command.specs.declared.status.Status.TheVariants.{Done, Usage, BundleRefused}
+use Rattle.bpsec_command.specs.declared.status.Refused.TheVariants as refused
 use Rattle.bpsec_command.specs.declared.words.Command.{Command}
-use Rattle.bpsec_command.specs.declared.words.Command.TheVariants.{Check}
-use Rattle.bpsec_command.specs.declared.status.Status.TheVariants.{Done, Usage, ReadFault, NoMemory, Unbuilt}
-use Rattle.bpsec_command.specs.declared.status.Reading.TheVariants.{Input}
+use Rattle.bpsec_command.specs.declared.words.Command.TheVariants.{Check, Explain}
+use Rattle.bpsec_command.specs.Reasons.{reason_name}
 use Rattle.bpsec_command.specs.Words.{command_of}
-use Rattle.bpsec_command.specs.FirstForm.{HasFirstForm}
 
--- what the program is given: its words, and its input where that is told
-pub record Given : Type 0 where
-  pub words : List (List ℕ)
-  pub input : Option (List ℕ)
+-- ---- what is done, in order
+
+-- The work of a command: an answer, or the fetch of a file and what comes after its content is known, or the same of the
+-- whole input.
+pub data Job : Type 0 where
+  Answered : Answer → Job
+  Fetch : List ℕ → (List ℕ → Job) → Job
+  Read : (List ℕ → Job) → Job
+
+-- ---- lines
 
 abbrev pub line : List ℕ → List ℕ
 line text = text ++ 10 ∷ []
+
+abbrev pub ok_line : ℕ → ℕ → List ℕ
+ok_line bytes blocks = line (codes "ok bytes=" ++ decimal bytes ++ codes " blocks=" ++ decimal blocks)
+
+abbrev pub refused_line : Fault → List ℕ
+refused_line fault = line (codes "refused bundle place=" ++ decimal fault.place ++ codes " reason=" ++ reason_name fault.reason)
 
 -- ---- what each command answers
 
 abbrev pub usage : ℕ → Answer
 usage word = record { status = Usage word; out = []; report = line (codes "usage word=" ++ decimal word) }
 
-abbrev pub ok_line : ℕ → ℕ → List ℕ
-ok_line bytes blocks = line (codes "ok bytes=" ++ decimal bytes ++ codes " blocks=" ++ decimal blocks)
+-- an input that is no bundle
+abbrev pub bundle_refused : Fault → Answer
+bundle_refused fault = record { status = BundleRefused (refused.Fault fault); out = []; report = refused_line fault }
 
-abbrev pub checked : List ℕ → Answer
-checked input = record { status = Done; out = ok_line (length input) 1; report = [] }
+-- the answer to the bundle that the input is, else its first fault
+abbrev pub on_bundle : (Contents → Answer) → Result Contents Fault → Answer
+on_bundle answer (Ok bundle) = answer bundle
+on_bundle answer (Err fault) = bundle_refused fault
 
-abbrev pub unbuilt : Answer
-unbuilt = record { status = Unbuilt; out = []; report = line (codes "unbuilt") }
+-- `check`: how many bytes and canonical blocks the bundle has
+abbrev pub checked : Contents → Answer
+checked bundle = record { status = Done; out = ok_line (length (spelling bundle)) (length bundle.blocks); report = [] }
 
--- `check`: a bundle of the first form, or not
-unfoldable pub IsCheckAnswer : List ℕ → Answer → Type 0
-IsCheckAnswer input answer = (HasFirstForm input × (answer ≡ checked input)) ⊎ ((HasFirstForm input → ⊥) × (answer ≡ unbuilt))
+-- `explain`: the lines of the bundle
+abbrev pub explained : Contents → Answer
+explained bundle = record { status = Done; out = explanation bundle; report = [] }
 
-abbrev pub IsJobAnswer : Command → List ℕ → Answer → Type 0
-IsJobAnswer Check input answer = IsCheckAnswer input answer
+-- ---- the commands
 
--- a fact about the input, or about some input where it isn't told
-abbrev pub OnInput : Option (List ℕ) → (List ℕ → Type 0) → Type 0
-OnInput input P = MatchOption input ((bytes : List ℕ) × P bytes) P
+abbrev pub job_of : Command → Job
+job_of Check = Read (λ input. Answered (on_bundle checked (read_only input)))
+job_of Explain = Read (λ input. Answered (on_bundle explained (read_only input)))
 
--- The answer to what is given: of the command whose line the words are, else of the faulty word.
-abbrev pub IsAnswer : Given → Answer → Type 0
-IsAnswer given answer = MatchResult (command_of given.words) (λ command. OnInput given.input (λ input. IsJobAnswer command input answer)) (λ word. answer ≡ usage word)
+abbrev pub job_in : Result Command ℕ → Job
+job_in (Ok command) = job_of command
+job_in (Err word) = Answered (usage word)
 
--- ---- what is answered where something stands in the way
+-- the work that the words ask for
+abbrev pub job : List (List ℕ) → Job
+job words = job_in (command_of words)
 
-abbrev pub input_fault : Answer
-input_fault = record { status = ReadFault Input; out = []; report = line (codes "fault read input") }
+-- ---- the answer
 
-abbrev pub memory_fault : Answer
-memory_fault = record { status = NoMemory; out = []; report = line (codes "fault memory") }
+-- all that can be told: the content of each name, and the input
+pub record World : Type 0 where
+  pub files : List ℕ → List ℕ
+  pub input : List ℕ
 
-abbrev pub answer_of : Hindrance → Answer
-answer_of hindrances.Input = input_fault
-answer_of hindrances.Memory = memory_fault
+abbrev pub answered : World → Job → Answer
+answered world (Answered answer) = answer
+answered world (Fetch name next) = answered world (next (world.files name))
+answered world (Read next) = answered world (next world.input)
+
+-- the answer to the words in this world
+abbrev pub answer : List (List ℕ) → World → Answer
+answer words world = answered world (job words)

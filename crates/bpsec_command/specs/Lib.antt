@@ -1,6 +1,7 @@
 pub mod Words
-pub mod FirstForm
+pub mod Reasons
 pub mod Answer
+pub mod Due
 pub mod Delivery
-pub mod Skipping
-pub mod Reading
+pub mod Statuses
+pub mod Slots

@@ -1,46 +1,61 @@
 -- The grammar of the words after the program's name.
-use Rattle.std.specs.Prelude.{ℕ, ◌+◌, ◌==◌, ◌&&◌, max, Bool, true, if◌then◌else◌, List, [], ◌∷◌, length, Result, Ok, Err, IsOkAnd, IsTrue, codes}
+use Rattle.std.specs.Prelude.{ℕ, ◌+◌, ◌==◌, ◌&&◌, max, nat_le, Bool, true, if◌then◌else◌, List, [], ◌∷◌, length, Result, Ok, Err, IsOkAnd, IsTrue, codes}
 use Rattle.std.specs.Str.{bytes_eq}
 use Rattle.bpsec_command.specs.declared.words.Command.{Command}
-use Rattle.bpsec_command.specs.declared.words.Command.TheVariants.{Check}
+use Rattle.bpsec_command.specs.declared.words.Command.TheVariants.{Check, Explain}
 
--- what stands at a place of a line
+-- what stands at a place of a line: a word, or the name of a file, of 1 to 255 bytes
 pub data Slot : Type 0 where
   Exactly : List ℕ → Slot
+  Name : Slot
 
 abbrev pub fits : Slot → List ℕ → Bool
 fits (Exactly text) word = bytes_eq text word
+fits Name word = nat_le 1 (length word) && nat_le (length word) 255
 
--- the line of each command
-abbrev pub line_of : Command → List Slot
-line_of Check = Exactly (codes "check") ∷ []
+-- a line, and the command that words of this line are, with what its slots hold
+pub record Line : Type 0 where
+  pub slots : List Slot
+  pub command : List (List ℕ) → Command
 
-abbrev pub lines : List (List Slot)
-lines = line_of Check ∷ []
+-- the lines, one for each command
+abbrev pub check_slots : List Slot
+check_slots = Exactly (codes "check") ∷ []
+
+abbrev pub explain_slots : List Slot
+explain_slots = Exactly (codes "explain") ∷ []
+
+abbrev pub grammar : List Line
+grammar = record { slots = check_slots; command = λ _. Check } ∷ record { slots = explain_slots; command = λ _. Explain } ∷ []
 
 -- how many words from the front a line goes along with
 abbrev pub along : List Slot → List (List ℕ) → ℕ
 along [] words = 0
-along (slot ∷ line) [] = 0
-along (slot ∷ line) (word ∷ words) = if fits slot word then along line words + 1 else 0
-
--- the most words that any line goes along with
-abbrev pub along_any : List (List Slot) → List (List ℕ) → ℕ
-along_any [] words = 0
-along_any (line ∷ lines) words = max (along line words) (along_any lines words)
+along (slot ∷ slots) [] = 0
+along (slot ∷ slots) (word ∷ words) = if fits slot word then along slots words + 1 else 0
 
 -- the words are this line, each of it and nothing more
 abbrev pub is_line : List Slot → List (List ℕ) → Bool
-is_line line words = (length words == length line) && (along line words == length line)
+is_line slots words = (length words == length slots) && (along slots words == length slots)
 
--- `check` reads the input
+-- the most words that any line goes along with
+abbrev pub along_any : List Line → List (List ℕ) → ℕ
+along_any [] words = 0
+along_any (line ∷ lines) words = max (along line.slots words) (along_any lines words)
+
+-- The command of the first line that the words are, else the faulty word: the least index at which no line goes on so, or
+-- the number of words where a line was begun and not ended.
+abbrev pub command_in : List Line → List (List ℕ) → ℕ → Result Command ℕ
+command_in [] words faulty = Err faulty
+command_in (line ∷ lines) words faulty = if is_line line.slots words then Ok (line.command words) else command_in lines words faulty
+
+abbrev pub command_of : List (List ℕ) → Result Command ℕ
+command_of words = command_in grammar words (along_any grammar words)
+
+-- which commands read the input
 abbrev pub reads_input : Command → Bool
 reads_input Check = true
-
--- The command whose line the words are, else the faulty word: the least index at which no line goes on so, or the
--- number of words where a line was begun and not ended.
-abbrev pub command_of : List (List ℕ) → Result Command ℕ
-command_of words = if is_line (line_of Check) words then Ok Check else Err (along_any lines words)
+reads_input Explain = true
 
 -- the words are a line of a command that reads the input
 abbrev pub ReadsInput : List (List ℕ) → Type 0

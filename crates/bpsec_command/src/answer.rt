@@ -1,7 +1,7 @@
 //! What the program answers, made before the first write, and what stands in the way of an answer.
 
-ghost use Rattle.std.specs.Prelude.{◌≡◌, [], string_bytes};
-ghost use Rattle.bpsec_command.specs.Answer.{answer_of};
+ghost use Rattle.std.specs.Prelude.{◌≡◌, [], string_bytes, Err};
+ghost use Rattle.bpsec_command.specs.Due.{due_of};
 
 use crate::status::{Reading, Status};
 use cbor_profile::{Bytes, NoMemory};
@@ -20,6 +20,8 @@ pub struct Answer {
 pub enum Hindrance {
     /// The input couldn't be read.
     Input,
+    /// A named file couldn't be fetched.
+    Shelf,
     /// No memory was left.
     Memory,
 }
@@ -37,20 +39,22 @@ impl From<NoMemory> for Hindrance {
 impl Hindrance {
     /// The status that it ends with.
     pub fn status(self) -> Status
-        ensures { result ≡ (answer_of self).status }
+        ensures { result ≡ (due_of (Err self)).status }
     {
         match self {
             Hindrance::Input => Status::ReadFault(Reading::Input),
+            Hindrance::Shelf => Status::ReadFault(Reading::Shelf),
             Hindrance::Memory => Status::NoMemory,
         }
     }
 
     /// The line that the report gets. It stands ready, since no memory may be left.
     pub fn line(self) -> &'static [u8]
-        ensures { result.now ≡ (answer_of self).report }
+        ensures { result.now ≡ (due_of (Err self)).report }
     {
         match self {
             Hindrance::Input => b"fault read input\n",
+            Hindrance::Shelf => b"fault read shelf\n",
             Hindrance::Memory => b"fault memory\n",
         }
     }

@@ -1,10 +1,7 @@
-//! The last step: the answer is written, the output whole before the report. Here alone are write faults.
+//! The last step: what is due is written, the output whole before the report. Here alone are write faults.
 
 ghost use Rattle.std.specs.Prelude.{◌≡◌, []};
-ghost use Rattle.bp_outside.specs.Outside.{Rose};
-ghost use Rattle.bpsec_command.specs.Delivery.{IsDelivered, BreaksOffOut, BreaksOffReport, IsWriteFault, Takes, Written};
-ghost use Rattle.bpsec_command.specs.declared.status.Status.TheVariants.{WriteFault};
-ghost use Rattle.bpsec_command.specs.declared.status.Writing.TheVariants.{Out, Report};
+ghost use Rattle.bpsec_command.specs.Delivery.{IsDelivered, Takes};
 
 use crate::status::{Status, Writing};
 use bp_outside::{Sink, write_all};
@@ -17,18 +14,10 @@ pub fn deliver<W: Sink, R: Sink>(
     out: &mut W,
     report: &mut R,
 ) -> Status
-    requires { IsWriteFault status → ⊥ }
-    ensures whole { (IsWriteFault result → ⊥) → IsDelivered (record { status = status; out = out_due.now; report = report_due.now }) result
-        (record { out_before = W.written out.old; out_now = W.written out.new; report_before = R.written report.old; report_now = R.written report.new }) }
-    ensures out_broken { result ≡ WriteFault Out → BreaksOffOut (record { status = status; out = out_due.now; report = report_due.now })
-        (record { out_before = W.written out.old; out_now = W.written out.new; report_before = R.written report.old; report_now = R.written report.new }) }
-    ensures report_broken { result ≡ WriteFault Report → BreaksOffReport (record { status = status; out = out_due.now; report = report_due.now })
-        (record { out_before = W.written out.old; out_now = W.written out.new; report_before = R.written report.old; report_now = R.written report.new }) }
-    ensures out_fault { result ≡ WriteFault Out → Rose (W.faults out.old) (W.faults out.new) }
-    ensures report_fault { result ≡ WriteFault Report → Rose (R.faults report.old) (R.faults report.new) }
+    ensures delivered { IsDelivered (record { status = status; out = out_due.now; report = report_due.now }) result
+        (record { before = W.written out.old; now = W.written out.new; faults_before = W.faults out.old; faults_now = W.faults out.new })
+        (record { before = R.written report.old; now = R.written report.new; faults_before = R.faults report.old; faults_now = R.faults report.new }) }
     ensures untouched_out { out_due.now ≡ [] → out.new ≡ out.old }
-    ensures quiet_out { (result ≡ WriteFault Out → ⊥) → W.faults out.new ≡ W.faults out.old }
-    ensures quiet_report { (result ≡ WriteFault Report → ⊥) → R.faults report.new ≡ R.faults report.old }
     ensures takes_on { Takes (W.takes out.old) out_due.now → Takes (R.takes report.old) report_due.now → result ≡ status }
 {
     if write_all(out, out_due).is_err() {

@@ -1,20 +1,27 @@
 //! The fourth step: the job of each command, from values to an answer. A job is a module of its own.
 
-ghost use Rattle.std.specs.Prelude.{IfOk};
-ghost use Rattle.bpsec_command.specs.Answer.{IsJobAnswer};
+ghost use Rattle.std.specs.Prelude.{◌≡◌, [], IfOk};
+ghost use Rattle.bpsec_command.specs.Statuses.{IsSuccess, IsFault};
 
-mod check;
+pub mod check;
+pub mod explain;
 
 use crate::answer::Answer;
-use crate::words::Command;
+use bp_bundle::Bundle;
 use cbor_profile::NoMemory;
 use std::alloc::Global;
 
-/// Does the job of a command that reads the input.
-pub fn do_job(alloc: Global, command: Command, input: &[u8]) -> Result<Answer, NoMemory>
-    ensures { IfOk result (IsJobAnswer command input.now) }
-{
-    match command {
-        Command::Check => check::check(alloc, input),
-    }
+/// The job of a command that reads one bundle.
+pub trait BundleJob {
+    ghost use Rattle.bp_bundle.specs.Shape.{Contents};
+    ghost use Rattle.bpsec_command.specs.declared.answer.Answer.{Answer};
+
+    /// The answer to each bundle.
+    ghost answer_to: { Self → Contents → Answer };
+
+    /// Answers.
+    fn answer(&self, alloc: Global, bundle: Bundle) -> Result<Answer, NoMemory>
+        ensures is { IfOk result (λ answer. answer ≡ answer_to self.now bundle) }
+        ensures no_fault { IfOk result (λ answer. IsFault answer.status → ⊥) }
+        ensures no_output { IfOk result (λ answer. (IsSuccess answer.status → ⊥) → answer.out ≡ []) };
 }

@@ -1,17 +1,18 @@
-//! The program, from its words to its status: `run` reads the words, reads the input, does the job, and delivers the
-//! answer. No command names a file yet. Each command is a variant of `Command`, a job of its own, and a case of the
-//! definition of the answer.
+//! The program, from its words to its status: `run` reads the words, fetches the named files, reads the input, does the job,
+//! and delivers the answer. Each command is a line of the grammar, a job of its own, and a case of the definition of the
+//! answer.
 #![tactic(auto)]
 
 mod answer;
 mod deliver;
-mod first_form;
 mod input;
 mod jobs;
+pub mod laws;
 mod program;
+mod refusals;
 mod respond;
 mod status;
 mod words;
 
 pub use program::run;
-pub use status::{Reading, Status, Writing};
+pub use status::{Reading, Refused, Status, Writing};

@@ -1,7 +1,9 @@
 //! How a run of the program ended.
 
 ghost use Rattle.std.specs.Prelude.{◌≡◌};
-ghost use Rattle.bpsec_command.specs.Delivery.{code_of};
+ghost use Rattle.bpsec_command.specs.Statuses.{code_of};
+
+use cbor_profile::Fault;
 
 /// How a run of the program ended.
 #[derive(Clone, Copy, Debug, PartialEq, Eq)]
@@ -10,27 +12,38 @@ pub enum Status {
     Done,
     /// The words are no line of the grammar: this is the index of the faulty word.
     Usage { word: u64 },
+    /// The input is refused.
+    BundleRefused(Refused),
     /// Reading failed.
     ReadFault(Reading),
-    /// Writing failed.
+    /// Writing failed. What went out is a prefix of what was due.
     WriteFault(Writing),
     /// No memory was left.
     NoMemory,
-    /// The input isn't of the one form of bundle that is built so far.
-    Unbuilt,
+}
+
+/// Why an input is refused.
+#[derive(Clone, Copy, Debug, PartialEq, Eq)]
+pub enum Refused {
+    /// It is no bundle: this is its first fault.
+    Fault(Fault),
 }
 
 /// What couldn't be read.
 #[derive(Clone, Copy, Debug, PartialEq, Eq)]
 pub enum Reading {
+    /// The input.
     Input,
+    /// A named file.
     Shelf,
 }
 
 /// What couldn't be written.
 #[derive(Clone, Copy, Debug, PartialEq, Eq)]
 pub enum Writing {
+    /// The output.
     Out,
+    /// The report.
     Report,
 }
 
@@ -42,10 +55,10 @@ impl Status {
         match self {
             Status::Done => 0,
             Status::Usage { .. } => 2,
+            Status::BundleRefused(_) => 3,
             Status::ReadFault(_) => 7,
             Status::WriteFault(_) => 8,
             Status::NoMemory => 9,
-            Status::Unbuilt => 13,
         }
     }
 }

@@ -1,16 +1,18 @@
 //! `check`.
 
+use crate::inputs::{CHECKED, Input, PLAIN, bundles, first_faults};
 use crate::runs::{Given, run_on};
 use bpsec_command::{Reading, Status, Writing};
+use std::process::Abort;
 use std::test::Fail;
 
-/// To ipn:1.2 from ipn:2.1, with 35 bytes of payload and no checks: 72 bytes.
-const BUNDLE: &[u8; 72] =
-    b"\x9f\x88\x07\x00\x00\x82\x02\x82\x01\x02\x82\x02\x82\x02\x01\x82\x02\x82\x02\x01\x82\x00\x18\x28\x1a\x00\x0f\x42\x40\x85\x01\x01\x00\x00\x58\x23Ready to generate a 32-byte payload\xff";
+const CHECK: &[&str; 1] = &["check"];
 
-/// The same and a byte more.
-const BUNDLE_AND_MORE: &[u8; 73] =
-    b"\x9f\x88\x07\x00\x00\x82\x02\x82\x01\x02\x82\x02\x82\x02\x01\x82\x02\x82\x02\x01\x82\x00\x18\x28\x1a\x00\x0f\x42\x40\x85\x01\x01\x00\x00\x58\x23Ready to generate a 32-byte payload\xff\x00";
+/// What stands before the payload of the ordinary bundle, and after it.
+const FRONT: &[u8] =
+    b"\x9f\x89\x07\x00\x02\x82\x01f//gs/x\x82\x01e//a/y\x82\x01e//a/y\x82\x00\x18(\x1a\x006\xee\x80D\x94\xedR\xb9\x86\n\x02\x00\x02D\x82\x18\x1e\x04D5'h\x8f\x86\x06\x03\x00\x02M\x82\x01j//node-77/D~\xa0v\xa2\x86\x01\x01\x00\x02Z\x00-\xc6\xc0";
+
+const BACK: &[u8] = b"D?\xde\xf2y\xff";
 
 fn given<'a>(words: &'a [&'a str], input: &'a [u8], most: usize) -> Given<'a> {
     Given {
@@ -23,65 +25,124 @@ fn given<'a>(words: &'a [&'a str], input: &'a [u8], most: usize) -> Given<'a> {
     }
 }
 
-/// A case: what is given, and the status, the output and the report that are wanted.
-type Case<'a> = (Given<'a>, Status, &'a [u8], &'a [u8]);
+/// Runs `check` on the input in pieces of at most so many bytes.
+fn expect_line(rt: &(impl Abort + AllocGlobal), case: &Input, most: usize) -> Result<(), Fail> {
+    let (name, input, line) = *case;
+    let made = run_on(rt.alloc(), &given(CHECK, input, most))?;
+    let (code, out, report) = if line.starts_with(b"ok") {
+        (0, line, b"".as_slice())
+    } else {
+        (3, b"".as_slice(), line)
+    };
+    assert_eq!(rt; made.status.code(), code, "{name}");
+    assert_eq!(rt; made.out.as_slice(), out, "{name}");
+    assert_eq!(rt; made.report.as_slice(), report, "{name}");
+    Ok(())
+}
 
 #[test]
-fn answers_to_inputs(rt: HostRuntime) -> Result<(), Fail> {
-    let check = ["check"];
-    let cases: [Case; 6] = [
-        (
-            given(&check, BUNDLE, 4096),
-            Status::Done,
-            b"ok bytes=72 blocks=1\n",
-            b"",
-        ),
-        (
-            given(&check, BUNDLE, 1),
-            Status::Done,
-            b"ok bytes=72 blocks=1\n",
-            b"",
-        ),
-        (
-            given(&check, BUNDLE_AND_MORE, 4096),
-            Status::Unbuilt,
-            b"",
-            b"unbuilt\n",
-        ),
-        (
-            given(&check, BUNDLE_AND_MORE, 1),
-            Status::Unbuilt,
-            b"",
-            b"unbuilt\n",
-        ),
-        (
-            given(&check, b"\x80", 4096),
-            Status::Unbuilt,
-            b"",
-            b"unbuilt\n",
-        ),
-        (given(&check, b"", 4096), Status::Unbuilt, b"", b"unbuilt\n"),
-    ];
-    for (given, status, out, report) in &cases {
-        let made = run_on(rt.alloc(), given)?;
-        assert_eq!(rt; made.status, *status);
-        assert_eq!(rt; made.out.as_slice(), *out);
-        assert_eq!(rt; made.report.as_slice(), *report);
+fn bundles_are_counted(rt: HostRuntime) -> Result<(), Fail> {
+    for case in &bundles() {
+        expect_line(&rt, case, 4096)?;
+        expect_line(&rt, case, 1)?;
     }
     Ok(())
 }
 
 #[test]
-fn answers_to_words(rt: HostRuntime) -> Result<(), Fail> {
-    let cases: [(&[&str], u64, &[u8]); 5] = [
+fn others_are_refused_at_their_first_fault(rt: HostRuntime) -> Result<(), Fail> {
+    for case in &first_faults() {
+        expect_line(&rt, case, 4096)?;
+        expect_line(&rt, case, 1)?;
+    }
+    Ok(())
+}
+
+#[test]
+fn each_proper_prefix_is_truncated_at_its_length(rt: HostRuntime) -> Result<(), Fail> {
+    let alloc = rt.alloc();
+    for n in 0..CHECKED.len() {
+        let made = run_on(alloc, &given(CHECK, &CHECKED[..n], 7))?;
+        let line = format!(in alloc; "refused bundle place={n} reason=Truncated\n")?;
+        assert_eq!(rt; made.status.code(), 3);
+        assert_eq!(rt; made.report.as_slice(), line.as_bytes());
+    }
+    Ok(())
+}
+
+#[test]
+fn a_large_payload_is_counted(rt: HostRuntime) -> Result<(), Fail> {
+    let alloc = rt.alloc();
+    let mut input = Vec::from_slice(alloc, &PLAIN[..34])?;
+    input.extend_from_slice(b"\x5a\x00\x01\x86\xa0")?;
+    input.extend_from_slice(&[7; 100_000])?;
+    input.extend_from_slice(b"\xff")?;
+    for most in [1, 4096, 1_000_000] {
+        let made = run_on(alloc, &given(CHECK, input.as_slice(), most))?;
+        assert_eq!(rt; made.status, Status::Done);
+        assert_eq!(rt;
+            made.out.as_slice(),
+            b"ok bytes=100040 blocks=1\n".as_slice()
+        );
+    }
+    Ok(())
+}
+
+/// Ids of the scheme dtn, a CRC-32C in each block, a hop count and a previous node block, and 3,000,000 bytes of payload.
+#[test]
+fn an_ordinary_bundle_is_counted(rt: HostRuntime) -> Result<(), Fail> {
+    let alloc = rt.alloc();
+    let mut input = Vec::from_slice(alloc, FRONT)?;
+    for _ in 0..30 {
+        input.extend_from_slice(&[7; 100_000])?;
+    }
+    input.extend_from_slice(BACK)?;
+    let made = run_on(alloc, &given(CHECK, input.as_slice(), 1_000_000))?;
+    assert_eq!(rt; made.status, Status::Done);
+    assert_eq!(rt;
+        made.out.as_slice(),
+        b"ok bytes=3000099 blocks=3\n".as_slice()
+    );
+    Ok(())
+}
+
+/// As many bytes as a bundle can have.
+#[test]
+fn the_largest_bundle_is_counted(rt: HostRuntime) -> Result<(), Fail> {
+    let alloc = rt.alloc();
+    let mut input = Vec::from_slice(alloc, &PLAIN[..34])?;
+    input.extend_from_slice(b"\x5a\x00\xff\xff\xd8")?;
+    for _ in 0..167 {
+        input.extend_from_slice(&[7; 100_000])?;
+    }
+    input.extend_from_slice(&[7; 77_176])?;
+    input.extend_from_slice(b"\xff")?;
+    let made = run_on(alloc, &given(CHECK, input.as_slice(), 1_000_000))?;
+    assert_eq!(rt; made.status, Status::Done);
+    assert_eq!(rt;
+        made.out.as_slice(),
+        b"ok bytes=16777216 blocks=1\n".as_slice()
+    );
+    Ok(())
+}
+
+#[test]
+fn words_that_are_no_line(rt: HostRuntime) -> Result<(), Fail> {
+    let alloc = rt.alloc();
+    let long = String::from_utf8(Vec::from_slice(alloc, &[b'c'; 256])?);
+    let Ok(long) = long else {
+        return Ok(());
+    };
+    let cases: [(&[&str], u64, &[u8]); 6] = [
         (&[], 0, b"usage word=0\n"),
         (&["chek"], 0, b"usage word=0\n"),
         (&["check", "more"], 1, b"usage word=1\n"),
         (&["check", "more", "words"], 1, b"usage word=1\n"),
         (&["--help"], 0, b"usage word=0\n"),
+        (&[long.as_str()], 0, b"usage word=0\n"),
     ];
     for (words, word, report) in &cases {
-        let made = run_on(rt.alloc(), &given(words, BUNDLE, 4096))?;
+        let made = run_on(rt.alloc(), &given(words, PLAIN, 4096))?;
         assert_eq!(rt; made.status, Status::Usage { word: *word });
         assert_eq!(rt; made.status.code(), 2);
         assert_eq!(rt; made.out.as_slice(), b"".as_slice());
@@ -90,67 +151,70 @@ fn answers_to_words(rt: HostRuntime) -> Result<(), Fail> {
     Ok(())
 }
 
+fn expect(rt: &impl Abort, made: crate::runs::Made, want: (Status, &[u8], &[u8])) {
+    assert_eq!(rt;
+        (made.status, made.out.as_slice(), made.report.as_slice()),
+        want
+    );
+}
+
 #[test]
-fn answers_to_faults(rt: HostRuntime) -> Result<(), Fail> {
-    let check = ["check"];
-    let chek = ["chek"];
-    let plain = given(&check, BUNDLE, 30);
-    let wrong = given(&chek, BUNDLE, 30);
-    let cases: [Case; 5] = [
-        (
-            Given {
-                failing_reads: &[0],
+fn each_read_may_fail(rt: HostRuntime) -> Result<(), Fail> {
+    // Five reads of 16 bytes at most, and one that finds the end.
+    for k in 0..8 {
+        let plain = given(CHECK, PLAIN, 16);
+        let made = run_on(
+            rt.alloc(),
+            &Given {
+                failing_reads: &[k],
                 ..plain
             },
-            Status::ReadFault(Reading::Input),
-            b"",
-            b"fault read input\n",
-        ),
-        (
-            Given {
-                failing_reads: &[2],
-                ..plain
-            },
-            Status::ReadFault(Reading::Input),
-            b"",
-            b"fault read input\n",
-        ),
-        (
-            Given {
-                failing_writes: &[0],
-                ..plain
-            },
-            Status::WriteFault(Writing::Out),
-            b"",
-            b"",
-        ),
-        (
-            Given {
-                failing_report_writes: &[0],
-                ..wrong
-            },
-            Status::WriteFault(Writing::Report),
-            b"",
-            b"",
-        ),
-        (
-            Given {
-                failing_report_writes: &[0],
-                ..plain
-            },
-            Status::Done,
-            b"ok bytes=72 blocks=1\n",
-            b"",
-        ),
-    ];
-    for (given, status, out, report) in &cases {
-        let made = run_on(rt.alloc(), given)?;
-        assert_eq!(rt; made.status, *status);
-        assert_eq!(rt; made.out.as_slice(), *out);
-        assert_eq!(rt; made.report.as_slice(), *report);
+        )?;
+        let want: (Status, &[u8], &[u8]) = if k < 6 {
+            (
+                Status::ReadFault(Reading::Input),
+                b"",
+                b"fault read input\n",
+            )
+        } else {
+            (Status::Done, b"ok bytes=72 blocks=1\n", b"")
+        };
+        expect(&rt, made, want);
     }
     assert_eq!(rt; Status::ReadFault(Reading::Input).code(), 7);
+    Ok(())
+}
+
+#[test]
+fn each_write_may_fail(rt: HostRuntime) -> Result<(), Fail> {
+    let plain = given(CHECK, PLAIN, 16);
+    let made = run_on(
+        rt.alloc(),
+        &Given {
+            failing_writes: &[0],
+            ..plain
+        },
+    )?;
+    expect(&rt, made, (Status::WriteFault(Writing::Out), b"", b""));
+    let made = run_on(
+        rt.alloc(),
+        &Given {
+            failing_writes: &[1],
+            failing_report_writes: &[0],
+            ..plain
+        },
+    )?;
+    expect(&rt, made, (Status::Done, b"ok bytes=72 blocks=1\n", b""));
+    let refused = given(CHECK, b"\x80", 16);
+    let made = run_on(
+        rt.alloc(),
+        &Given {
+            failing_writes: &[0],
+            failing_report_writes: &[0],
+            ..refused
+        },
+    )?;
+    expect(&rt, made, (Status::WriteFault(Writing::Report), b"", b""));
     assert_eq!(rt; Status::WriteFault(Writing::Report).code(), 8);
-    assert_eq!(rt; Status::Unbuilt.code(), 13);
     Ok(())
 }

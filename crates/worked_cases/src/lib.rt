@@ -4,4 +4,8 @@
 #[cfg(test)]
 mod check;
 #[cfg(test)]
+mod explain;
+#[cfg(test)]
+mod inputs;
+#[cfg(test)]
 mod runs;

@@ -42,7 +42,7 @@ fn numbers(alloc: Global, numbers: &[u64]) -> Result<List<u64>, NoMemory> {
 }
 
 /// How many bytes a sink has room for.
-const ROOM: usize = 200;
+const ROOM: usize = 4096;
 
 /// Runs the program. `most` of 0 is taken as 1.
 pub fn run_on(alloc: Global, given: &Given) -> Result<Made, NoMemory> {

@@ -1,31 +1,30 @@
-//! `check`: whether the input is a bundle.
+//! `check`: how many bytes and canonical blocks the bundle has.
 
-ghost use Rattle.std.specs.Prelude.{IfOk};
-ghost use Rattle.bpsec_command.specs.Answer.{IsCheckAnswer};
+ghost use Rattle.std.specs.Prelude.{◌≡◌, IfOk};
+ghost use Rattle.bpsec_command.specs.Answer.{checked};
 
-use crate::answer::{Answer, refusal};
-use crate::first_form::is_first_form;
+use crate::answer::Answer;
+use crate::jobs::BundleJob;
 use crate::status::Status;
+use bp_bundle::Bundle;
 use cbor_profile::{Bytes, NoMemory};
 use std::alloc::Global;
 
-/// How many blocks a bundle of the first form has besides its primary block.
-const BLOCKS: u64 = 1;
+/// The job of `check`.
+#[derive(Clone, Copy)]
+pub struct Check;
 
-/// The answer of `check` to an input.
-#[tactic(auto, unfolding(crate::specs::Answer::IsCheckAnswer))]
-pub fn check(alloc: Global, input: &[u8]) -> Result<Answer, NoMemory>
-    ensures { IfOk result (IsCheckAnswer input.now) }
-{
-    if !is_first_form(input) {
-        let line = String::from_str(alloc, "unbuilt\n")?;
-        return Ok(refusal(alloc, Status::Unbuilt, line));
+impl BundleJob for Check {
+    ghost answer_to = { λ _ bundle. checked bundle };
+
+    fn answer(&self, alloc: Global, bundle: Bundle) -> Result<Answer, NoMemory> {
+        let bytes = bundle.size();
+        let blocks = bundle.blocks().len();
+        let line = format!(in alloc; "ok bytes={bytes} blocks={blocks}\n")?;
+        Ok(Answer {
+            status: Status::Done,
+            out: Bytes::of(line.into_bytes()),
+            report: Bytes::new(alloc),
+        })
     }
-    let bytes = input.len();
-    let line = format!(in alloc; "ok bytes={bytes} blocks={BLOCKS}\n")?;
-    Ok(Answer {
-        status: Status::Done,
-        out: Bytes::of(line.into_bytes()),
-        report: Bytes::new(alloc),
-    })
 }

@@ -1,35 +1,14 @@
-use Rattle.std.proofs.Common.{map, string_bytes, subst, sym}
-use Rattle.bpsec_command.specs.Delivery.{HasNoFault}
-use Rattle.bpsec_command.specs.declared.status.Reading.TheVariants.{Input, Shelf}
-use Rattle.bpsec_command.proofs.Statuses.{is_answered, no_write_fault, no_fault, no_read_fault, no_want}
+use Rattle.std.proofs.Common.{subst, ◌∙◌}
+use Rattle.bpsec_command.specs.Statuses.{IsFault}
+use Rattle.bpsec_command.proofs.Completeness.{takes_due, untouched}
 use Rattle.bpsec_command.proofs.program.run.Goals as goal
 
-pub deliver-requires : goal.deliver-requires
-deliver-requires g c = no_write_fault _ (is_answered (map string_bytes c.args.words.now) _ c.in-Ok.answer c.in-Ok.ensures.answer)
-
-pub returns-in-Ok-clause-read_fault : goal.returns-in-Ok-clause-read_fault
-returns-in-Ok-clause-read_fault g c =
-    let own = is_answered (map string_bytes c.args.words.now) _ c.in-Ok.answer c.in-Ok.ensures.answer in
-    λ e. absurd (no_read_fault c.in-Ok.answer.status c.deliver.result Input own (λ w. (c.deliver.ensures.whole w).ended) e)
-
-pub returns-in-Ok-clause-read_fault_line : goal.returns-in-Ok-clause-read_fault_line
-returns-in-Ok-clause-read_fault_line g c =
-    let own = is_answered (map string_bytes c.args.words.now) _ c.in-Ok.answer c.in-Ok.ensures.answer in
-    λ e. absurd (no_read_fault c.in-Ok.answer.status c.deliver.result Input own (λ w. (c.deliver.ensures.whole w).ended) e)
-
-pub returns-in-Ok-clause-no_shelf_fault : goal.returns-in-Ok-clause-no_shelf_fault
-returns-in-Ok-clause-no_shelf_fault g c =
-    let own = is_answered (map string_bytes c.args.words.now) _ c.in-Ok.answer c.in-Ok.ensures.answer in
-    λ e. no_read_fault c.in-Ok.answer.status c.deliver.result Shelf own (λ w. (c.deliver.ensures.whole w).ended) e
-
-pub returns-in-Ok-clause-no_memory : goal.returns-in-Ok-clause-no_memory
-returns-in-Ok-clause-no_memory g c =
-    let own = is_answered (map string_bytes c.args.words.now) _ c.in-Ok.answer c.in-Ok.ensures.answer in
-    λ e. absurd (no_want c.in-Ok.answer.status c.deliver.result own (λ w. (c.deliver.ensures.whole w).ended) e)
-
 pub returns-in-Ok-clause-complete : goal.returns-in-Ok-clause-complete
-returns-in-Ok-clause-complete g c =
-    let own = is_answered (map string_bytes c.args.words.now) _ c.in-Ok.answer c.in-Ok.ensures.answer in
-    λ source sinks memory.
-    let takes = sinks c.in-Ok.answer c.in-Ok.ensures.answer in
-    subst HasNoFault (sym (c.deliver.ensures.takes_on (rw c.as_slice.ensures takes.0) (rw c.as_slice-in-Ok.ensures takes.1))) (no_fault c.in-Ok.answer.status own)
+returns-in-Ok-clause-complete g c = λ source files sinks memory.
+    let takes = takes_due _ _ _ (g.W.Sink.takes c.args.out.now) (g.R.Sink.takes c.args.report.now) c.in-Ok.ensures.due c.in-Ok.ensures.no_fault sinks memory in
+    let whole = c.deliver.ensures.takes_on (rw c.as_slice.ensures takes.0) (rw c.as_slice-in-Ok.ensures takes.1) in
+    λ fault. c.in-Ok.ensures.no_fault (subst IsFault whole fault)
+
+pub returns-in-Ok-clause-untouched_out : goal.returns-in-Ok-clause-untouched_out
+returns-in-Ok-clause-untouched_out g c = λ refused out report.
+    untouched _ _ _ _ c.deliver.ensures.delivered refused out report (λ fails. c.as_slice.ensures ∙ c.in-Ok.ensures.no_output fails) c.deliver.ensures.untouched_out
