@@ -1,4 +1,4 @@
--- Reading keeps the number of all bytes given, and where bytes end too early, it is the place.
+-- Reading keeps the number of all bytes given; no fault stands behind them, and where bytes end too early, it is their number.
 use Rattle.std.proofs.Common.{◌≡◌, ◌≢◌, ℕ, zero, suc, ◌+◌, ◌-◌, ◌%◌, ◌≤◌, Bool, true, false, cond, ltb, eqb, List, [], ◌∷◌, ◌++◌, length, take, drop, Option, Some, None, Result, Ok, Err, refl, sym, ◌∙◌, ap, arith, length-drop}
 use Rattle.std.specs.Prelude.{bytes_eq}
 use Rattle.std.proofs.lemmas.Bool.{ltb-false}
@@ -32,10 +32,10 @@ use Rattle.bp_bundle.proofs.Growing.{id_len}
 abbrev pub given : Cursor → ℕ
 given cursor = cursor.at + length cursor.rest
 
--- as many bytes are given still; bytes that end too early do so there
+-- as many bytes are given still; a fault stands within them, and bytes that end too early do so there
 unfoldable pub Ends : {A : Type 0} → (A → Cursor) → ℕ → Result A Fault → Type 0
 Ends end total (Ok x) = given (end x) ≡ total
-Ends end total (Err fault) = fault.reason ≡ reasons.Truncated → fault.place ≡ total
+Ends end total (Err fault) = (fault.reason ≡ reasons.Truncated → fault.place ≡ total) × (fault.place ≤ total)
 
 abbrev pub second : {X : Type 0} → X × Cursor → Cursor
 second x = x.1
@@ -58,17 +58,17 @@ ok_ends end total x is = is
 
 pub stops_end : {A : Type 0} (end : A → Cursor) (total : ℕ) (cursor : Cursor) (reason : Reason) → given cursor ≡ total → Ends end total (stops cursor reason)
 unfolding Ends
-stops_end end total cursor reasons.NotBundle is early = absurd cc
-stops_end end total cursor reasons.Truncated is early = is
-stops_end end total cursor reasons.NotShortest is early = absurd cc
-stops_end end total cursor reasons.WrongKind is early = absurd cc
-stops_end end total cursor reasons.WrongCount is early = absurd cc
-stops_end end total cursor reasons.WrongValue is early = absurd cc
-stops_end end total cursor reasons.WrongText is early = absurd cc
-stops_end end total cursor reasons.WrongCheck is early = absurd cc
-stops_end end total cursor reasons.TooLong is early = absurd cc
-stops_end end total cursor reasons.Trailing is early = absurd cc
-stops_end end total cursor reasons.Repeated is early = absurd cc
+stops_end end total cursor reasons.NotBundle is = (λ early. absurd cc, omega arith)
+stops_end end total cursor reasons.Truncated is = (λ early. is, omega arith)
+stops_end end total cursor reasons.NotShortest is = (λ early. absurd cc, omega arith)
+stops_end end total cursor reasons.WrongKind is = (λ early. absurd cc, omega arith)
+stops_end end total cursor reasons.WrongCount is = (λ early. absurd cc, omega arith)
+stops_end end total cursor reasons.WrongValue is = (λ early. absurd cc, omega arith)
+stops_end end total cursor reasons.WrongText is = (λ early. absurd cc, omega arith)
+stops_end end total cursor reasons.WrongCheck is = (λ early. absurd cc, omega arith)
+stops_end end total cursor reasons.TooLong is = (λ early. absurd cc, omega arith)
+stops_end end total cursor reasons.Trailing is = (λ early. absurd cc, omega arith)
+stops_end end total cursor reasons.Repeated is = (λ early. absurd cc, omega arith)
 
 -- ---- tokens
 
@@ -128,10 +128,33 @@ pub id_fault_early : (bytes : List ℕ) (fault : Fault) → read_id bytes ≡ Er
 unfolding read_id
 id_fault_early bytes fault is early = id_early bytes (reading_at bytes) fault is early
 
+placed_within : (given left : ℕ) (reason : Reason) → id_place given reason left ≤ given
+placed_within given left reasons.NotBundle = omega arith
+placed_within given left reasons.Truncated = omega arith
+placed_within given left reasons.NotShortest = omega arith
+placed_within given left reasons.WrongKind = omega arith
+placed_within given left reasons.WrongCount = omega arith
+placed_within given left reasons.WrongValue = omega arith
+placed_within given left reasons.WrongText = omega arith
+placed_within given left reasons.WrongCheck = omega arith
+placed_within given left reasons.TooLong = omega arith
+placed_within given left reasons.Trailing = omega arith
+placed_within given left reasons.Repeated = omega arith
+
+id_within : (bytes : List ℕ) (read : Result (Eid × List ℕ) Stop) (fault : Fault) → answer bytes read ≡ Err fault → fault.place ≤ length bytes
+id_within bytes (Ok x) fault is = absurd cc
+id_within bytes (Err stop) fault is =
+    let same : fault_of (length bytes) stop ≡ fault = cc in
+    rw (← same) (placed_within (length bytes) stop.left stop.reason)
+
+id_fault_within : (bytes : List ℕ) (fault : Fault) → read_id bytes ≡ Err fault → fault.place ≤ length bytes
+unfolding read_id
+id_fault_within bytes fault is = id_within bytes (reading_at bytes) fault is
+
 id_by : (total : ℕ) (cursor : Cursor) (r : Result EidAt Fault) → read_id cursor.rest ≡ r → given cursor ≡ total → Ends second total (after_id cursor r)
 unfolding Ends
 id_by total cursor (Ok at) e is = past_given at.len cursor (id_len cursor.rest at e) ∙ is
-id_by total cursor (Err fault) e is = λ early. let place = id_fault_early cursor.rest fault e early in omega arith
+id_by total cursor (Err fault) e is = (λ early. let place = id_fault_early cursor.rest fault e early in omega arith, let place = id_fault_within cursor.rest fault e in omega arith)
 
 pub id_ends : (total : ℕ) (cursor : Cursor) → given cursor ≡ total → Ends second total (id_at cursor)
 unfolding id_at

@@ -1,8 +1,9 @@
-mod Sizes
-mod Shapes
-mod Unfaulted
+pub mod Sizes
+pub mod Shapes
+pub mod Unfaulted
 mod Changes
-mod Edited
+pub mod CheckSizes
+pub mod Edited
 mod Arguments
 mod PrimaryMeans
 mod BlocksMeans
@@ -19,3 +20,4 @@ mod Bounds
 mod Runs
 mod Taken
 mod WholeInputs
+mod InTurn

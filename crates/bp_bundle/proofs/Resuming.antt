@@ -40,7 +40,11 @@ ends_ok end total r x ends is = subst (Ends end total) is ends
 
 pub ends_err : {A : Type 0} (end : A → Cursor) (total : ℕ) (r : Result A Fault) (fault : Fault) → Ends end total r → r ≡ Err fault → fault.reason ≡ reasons.Truncated → fault.place ≡ total
 unfolding Ends
-ends_err end total r fault ends is = subst (Ends end total) is ends
+ends_err end total r fault ends is = (subst (Ends end total) is ends).0
+
+pub within_err : {A : Type 0} (end : A → Cursor) (total : ℕ) (r : Result A Fault) (fault : Fault) → Ends end total r → r ≡ Err fault → fault.place ≤ total
+unfolding Ends
+within_err end total r fault ends is = (subst (Ends end total) is ends).1
 
 pub grows_ok : {A : Type 0} (e : A → A) (r r' : Result A Fault) (x : A) → Grows e r r' → r ≡ Ok x → r' ≡ Ok (e x)
 unfolding Stays
@@ -123,3 +127,9 @@ pub early_place : (bytes : List ℕ) (fault : Fault) → read_bundle bytes ≡ E
 unfolding read_bundle
 early_place bytes fault is early =
     ends_err second (length bytes) (read_bundle bytes) fault (bundle_ends (length bytes) (record { at = 0; rest = bytes }) (omega arith)) is early
+
+-- no fault stands behind all the bytes
+pub fault_within : (bytes : List ℕ) (fault : Fault) → read_bundle bytes ≡ Err fault → fault.place ≤ length bytes
+unfolding read_bundle
+fault_within bytes fault is =
+    within_err second (length bytes) (read_bundle bytes) fault (bundle_ends (length bytes) (record { at = 0; rest = bytes }) (omega arith)) is

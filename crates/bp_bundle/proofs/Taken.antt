@@ -183,7 +183,7 @@ within_by laws stage taken piece pending place bundle begun then is same placed 
     by_test true test = absurd (ended stage reads waits kept follows (ltb-true _ _ test))
     by_test false test = ltb-false _ _ test
 
-taken_is : (whole rest taken piece : List ℕ) (count : ℕ) → taken ++ piece ≡ whole ++ rest → count + length rest ≡ length piece → taken ++ take count piece ≡ whole
+pub taken_is : (whole rest taken piece : List ℕ) (count : ℕ) → taken ++ piece ≡ whole ++ rest → count + length rest ≡ length piece → taken ++ take count piece ≡ whole
 taken_is whole rest taken piece count same size =
     let l = ap (λ (xs : List ℕ). length xs) same in
     let len : length taken + count ≡ length whole = omega (arith, length-append taken piece, length-append whole rest) in

@@ -11,3 +11,5 @@ pub mod HeaderText
 pub mod Machine
 pub mod Taking
 pub mod WholeInput
+pub mod BackToBack
+pub mod Window

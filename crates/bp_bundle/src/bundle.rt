@@ -173,6 +173,19 @@ impl Bundle {
         }
     }
 
+    /// Its primary block and its canonical blocks. Takes no memory.
+    pub fn into_parts(self) -> (Primary, List<Block>)
+        ensures parts { self ≡ record { primary = result.0; blocks = result.1 } }
+        ensures shape { IsBundle self }
+    {
+        let Bundle {
+            primary,
+            blocks,
+            size: _size,
+        } = self;
+        (primary, blocks)
+    }
+
     /// The same bundle again.
     pub fn copy(&self, alloc: Global) -> Result<Bundle, NoMemory>
         ensures { IfOk result (λ copy. copy ≡ self.now) }

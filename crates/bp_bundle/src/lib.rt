@@ -6,12 +6,14 @@ mod at;
 mod block_header;
 mod bodies;
 mod bundle;
+mod bundles;
 mod check;
 mod cursor;
 mod edits;
 mod feeding;
 mod front;
 mod header;
+mod in_turn;
 pub mod laws;
 mod parts;
 mod reader;
@@ -21,12 +23,16 @@ mod stage;
 mod steps;
 mod token;
 mod whole_input;
+mod window;
 
 pub use bundle::Bundle;
+pub use bundles::Bundles;
 pub use edits::InsertFault;
 pub use reader::{Fed, Reader};
-pub use shape::ShapeFault;
+pub use shape::{ShapeFault, spelled_size};
 pub use whole_input::{InputFault, read_one};
 
+#[cfg(test)]
+mod bundles_tests;
 #[cfg(test)]
 mod tests;

@@ -129,8 +129,9 @@ fn shape_fault(blocks: &[Block], size: u64) -> Option<ShapeFault>
     None
 }
 
-/// How many bytes the spelling has, or the last u64 where there are more.
-fn spelled_size(primary: &Primary, blocks: &[Block]) -> u64
+/// How many bytes the spelling of a primary block and these canonical blocks as a bundle has, or the last u64 where there are
+/// more. Takes no memory.
+pub fn spelled_size(primary: &Primary, blocks: &[Block]) -> u64
     ensures size { result ≡ min (length (spelling (record { primary = primary.now; blocks = blocks.now }))) (2 ^ 64 - 1) }
     ensures primary { IsPrimary primary.now }
     ensures blocks { All IsBlock blocks.now }

@@ -5,7 +5,7 @@ use bp_blocks::Block;
 use bp_crc::CheckKind;
 use bp_eid::Eid;
 use bp_primary::Primary;
-use cbor_profile::{Bytes, Fault, List, Reason, SpellError};
+use cbor_profile::{Bytes, Fault, List, Reason, SpellError, put_uint};
 use std::alloc::Global;
 use std::test::Fail;
 
@@ -84,7 +84,7 @@ fn proper_prefixes(rt: HostRuntime) {
 }
 
 /// How many bytes of the bundle, what follows them, and the fault.
-static FAULTS: [(usize, &[u8], u64, Reason); 29] = [
+static FAULTS: [(usize, &[u8], u64, Reason); 32] = [
     (0, b"\x80", 0, Reason::NotBundle),
     (1, b"\x87", 1, Reason::WrongCount),
     (
@@ -129,6 +129,19 @@ static FAULTS: [(usize, &[u8], u64, Reason); 29] = [
     ),
     (
         29,
+        b"\x85\x07\x02\x00\x00\x40\x85\x07",
+        36,
+        Reason::Repeated,
+    ),
+    (
+        29,
+        b"\x85\x0a\x02\x00\x00\x40\x85\x0a",
+        36,
+        Reason::Repeated,
+    ),
+    (29, b"\x86\x01\x01\x00\x02\x40\x42", 35, Reason::WrongValue),
+    (
+        29,
         b"\x85\x02\x02\x00\x00\x40\x85\x03\x02",
         37,
         Reason::Repeated,
@@ -152,6 +165,30 @@ fn first_faults(rt: HostRuntime) -> Result<(), Fail> {
         let bytes = front(rt.alloc(), *count, more)?;
         assert!(rt; stops(rt.alloc(), bytes.as_slice(), *place, *reason));
     }
+    Ok(())
+}
+
+/// The primary block, and so many blocks of type 2 with the numbers from 2 on.
+fn blocks(alloc: Global, count: u64) -> Result<Bytes, Fail> {
+    let mut bytes = front(alloc, 29, b"")?;
+    for i in 0..count {
+        bytes.extend(b"\x85\x02")?;
+        put_uint(&mut bytes, i.saturating_add(2))?;
+        bytes.extend(b"\x00\x00\x40")?;
+    }
+    Ok(bytes)
+}
+
+#[test]
+fn most_blocks(rt: HostRuntime) -> Result<(), Fail> {
+    let mut bytes = blocks(rt.alloc(), 63)?;
+    bytes.extend(b"\x85\x01\x01\x00\x00\x40\xff")?;
+    let out = again(rt.alloc(), bytes.as_slice(), 7)?;
+    assert_eq!(rt; out.as_slice(), bytes.as_slice());
+    let mut more = blocks(rt.alloc(), 64)?;
+    let place = more.len() as u64;
+    more.extend(b"\x85")?;
+    assert!(rt; stops(rt.alloc(), more.as_slice(), place, Reason::TooLong));
     Ok(())
 }
 
