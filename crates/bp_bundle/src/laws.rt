@@ -1,12 +1,13 @@
 //! Laws over the definitions of this crate. Each is the contract of a function that does nothing but name the laws that it
 //! follows from.
 
-ghost use Rattle.std.specs.Prelude.{◌≡◌, ◌≢◌, ◌+◌, ◌<◌, ◌≤◌, ◌↔◌, ◌++◌, ℕ, List, Ok, Err, length, slice_index, slice_get, Some};
+ghost use Rattle.std.specs.Prelude.{◌≡◌, ◌≢◌, ◌+◌, ◌<◌, ◌≤◌, ◌↔◌, ◌++◌, ℕ, List, None, Ok, Err, length, slice_index, slice_get, Some};
 ghost use Rattle.cbor_profile.specs.declared.TheConstants.{BUNDLE_LIMIT};
 ghost use Rattle.cbor_profile.specs.declared.fault.Fault.{Fault};
 ghost use Rattle.cbor_profile.specs.declared.fault.Reason.TheVariants.{Truncated};
 ghost use Rattle.bp_bundle.specs.Shape.{Contents};
 ghost use Rattle.bp_bundle.specs.Spelling.{IsBundle, Spells, spelling};
+ghost use Rattle.bp_bundle.specs.Faults.{shape_fault};
 ghost use Rattle.bp_bundle.specs.Tokens.{Cursor};
 ghost use Rattle.bp_bundle.specs.FirstFault.{read_bundle, read_only};
 ghost use Rattle.bp_bundle.specs.Edits.{check_size, with_crc};
@@ -74,4 +75,9 @@ pub fn checks_have_sizes()
     ensures block { (bundle : Contents) (index : ℕ) (block : Block) (crc : CheckKind) → IsBundle bundle → slice_get bundle.blocks index ≡ Some block
         → length (spelling (with_crc block.number crc bundle)) + check_size block.crc ≡ length (spelling bundle) + check_size crc }
     ensures none { (bundle : Contents) (number : ℕ) → length (spelling (with_crc number kinds.None bundle)) ≤ length (spelling bundle) }
+{}
+
+/// A bundle has no fault of shape.
+pub fn bundles_have_no_fault_of_shape()
+    ensures { (bundle : Contents) → IsBundle bundle → shape_fault bundle ≡ None }
 {}

@@ -1,0 +1,5 @@
+use Rattle.bp_bundle.proofs.Unfaulted.{bundle_no_fault}
+use Rattle.bp_bundle.proofs.laws.bundles_have_no_fault_of_shape.Goals as goal
+
+pub returns : goal.returns
+returns c = bundle_no_fault
