@@ -11,3 +11,5 @@ pub mod Again
 pub mod Whole
 pub mod Plain
 pub mod Lawful
+pub mod Lengths
+pub mod Short

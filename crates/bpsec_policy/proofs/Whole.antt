@@ -22,7 +22,7 @@ use Rattle.bpsec_policy.specs.Names.{all_differ}
 use Rattle.bpsec_policy.specs.Words.{action_word, action_of}
 use Rattle.bpsec_policy.specs.Rules.{Parts}
 use Rattle.bpsec_policy.specs.Policy.{reserved, names_of as names_of_all, is_rule, is_default, is_requirement, is_policy}
-use Rattle.bpsec_policy.specs.Ranges.{PatternsFit, PartsFit}
+use Rattle.bpsec_policy.specs.Ranges.{PatternsFit, PartsFit, RequirementFits}
 use Rattle.bpsec_policy.specs.RuleText.{rule_at, requirement_at}
 use Rattle.bpsec_policy.specs.PolicyText.{has_head, has_lists, has_policy_keys, is_policy_shape, head_at, lists_at, policy_at}
 use Rattle.bpsec_policy.specs.Written.{entered, id_tree, rule_tree, requirement_tree, default_tree, policy_entries, policy_tree}
@@ -133,11 +133,11 @@ rules_read law (r ∷ rs) h fits =
     let p = both_true (is_rule r) (list_all is_rule rs) h in
     (record { read_back = rule_again law r p.0 fits.0; named = rule_name r }, rules_read law rs p.1 fits.1)
 
-required_read : IdLaw → (xs : List Requirement) → list_all is_requirement xs ≡ true → AllByRecursion (λ r. IfSome r.from Fits) xs → AllByRecursion (IsRead requirement_at requirement_tree (λ r. r.name)) xs
+required_read : IdLaw → (xs : List Requirement) → list_all is_requirement xs ≡ true → AllByRecursion RequirementFits xs → AllByRecursion (IsRead requirement_at requirement_tree (λ r. r.name)) xs
 required_read law [] h fits = tt
 required_read law (r ∷ rs) h fits =
     let p = both_true (is_requirement r) (list_all is_requirement rs) h in
-    (record { read_back = requirement_again law r p.0 fits.0; named = requirement_name r }, required_read law rs p.1 fits.1)
+    (record { read_back = requirement_again law r p.0 fits.0.from; named = requirement_name r }, required_read law rs p.1 fits.1)
 
 policy_field : (p : Parts) (key : List ℕ) → get key (policy_tree p) ≡ found key (policy_entries p) None
 unfolding policy_tree

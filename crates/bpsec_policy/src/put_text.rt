@@ -1,6 +1,6 @@
 //! Writing a policy as a text of version 2.
 
-ghost use Rattle.std.specs.Prelude.{◌≡◌, ◌≤◌, ◌++◌, length, true, Ok, IsTrue, IfOk, IfSome, OnOk, OnErr, option_map, map, FitsSigned};
+ghost use Rattle.std.specs.Prelude.{◌≡◌, ◌<◌, ◌++◌, length, true, Ok, IsTrue, IfOk, IfSome, OnOk, OnErr, option_map, map, FitsSigned};
 ghost use Rattle.std.specs.Int.{w64};
 ghost use Rattle.std.specs.List.{AllByRecursion};
 ghost use Rattle.serde_json.specs.Data.{array};
@@ -10,7 +10,7 @@ ghost use Rattle.bp_text.specs.Shape.{is_name};
 ghost use Rattle.bpsec_policy.specs.Rules.{allows};
 ghost use Rattle.bpsec_policy.specs.Policy.{is_rule, is_requirement, is_policy};
 ghost use Rattle.bpsec_policy.specs.PolicyText.{policy_of};
-ghost use Rattle.bpsec_policy.specs.Ranges.{PatternsFit, PartsFit};
+ghost use Rattle.bpsec_policy.specs.Ranges.{TargetFits, PatternsFit, RequirementFits, PartsFit};
 ghost use Rattle.bpsec_policy.specs.Written.{entered, acting_entries, target_tree, source_entries, target_entries, name_entries, rule_tree, requirement_entries, requirement_tree, default_tree, head_entries, list_entries, policy_tree, policy_text};
 
 use crate::policy::Policy;
@@ -84,7 +84,8 @@ fn targets_value(
     alloc: Global,
     targets: &Option<List<TargetKind>>,
 ) -> Result<Option<Value>, NoMemory>
-    ensures { IfOk result (λ v. option_map view v ≡ option_map (λ kinds. array (items_of (map target_tree kinds))) targets.now) }
+    ensures value { IfOk result (λ v. option_map view v ≡ option_map (λ kinds. array (items_of (map target_tree kinds))) targets.now) }
+    ensures fits { OnOk result (IfSome targets.now (AllByRecursion TargetFits)) }
 {
     match targets {
         Some(kinds) => Ok(Some(array_of(alloc, kinds.items())?)),
@@ -99,7 +100,7 @@ fn put_targets(
     patterns: &Patterns,
 ) -> Result<(), NoMemory>
     ensures value { OnOk result (members_view members.new.entries ≡ entered (members_view members.old.entries) (target_entries patterns.now)) }
-    ensures fits { OnOk result (IfSome patterns.now.context (λ z. FitsSigned w64 z)) }
+    ensures fits { OnOk result (IfSome patterns.now.context (λ z. FitsSigned w64 z) × IfSome patterns.now.targets (AllByRecursion TargetFits)) }
 {
     put_if(alloc, members, "context", signed_value(patterns.context))?;
     put_if(
@@ -144,7 +145,7 @@ impl Written for Requirement {
 
     ghost tree = { requirement_tree };
 
-    ghost fits = { λ r. IfSome r.from Fits };
+    ghost fits = { RequirementFits };
 
     #[tactic(auto, unfolding(crate::specs::Written::requirement_tree))]
     fn value(&self, alloc: Global) -> Result<Value, NoMemory> {
@@ -217,7 +218,7 @@ impl Policy {
     fn put_lists(&self, alloc: Global, members: &mut Map<String, Value>) -> Result<(), NoMemory>
         ensures value { OnOk result (members_view members.new.entries ≡ entered (members_view members.old.entries) (list_entries self.now)) }
         ensures rules { OnOk result (AllByRecursion (λ r. PatternsFit r.patterns) self.now.rules) }
-        ensures required { OnOk result (AllByRecursion (λ r. IfSome r.from Fits) self.now.required) }
+        ensures required { OnOk result (AllByRecursion RequirementFits self.now.required) }
     {
         put_if(
             alloc,
@@ -247,13 +248,13 @@ impl Policy {
         Ok(Value::from(members))
     }
 
-    /// Appends the policy as a text of version 2, or leaves the bytes as they were for want of memory. A text within the
-    /// limit of texts is read back as the same policy.
+    /// Appends the policy as a text of version 2, or leaves the bytes as they were for want of memory. The text is within
+    /// the limit of texts, and is read back as the same policy.
     pub fn put_text(&self, alloc: Global, out: &mut Bytes) -> Result<(), NoMemory>
         ensures ok { OnOk result (out.new ≡ out.old ++ policy_text self.now) }
         ensures err { OnErr result (out.new ≡ out.old) }
-        ensures again { OnOk result (length (policy_text self.now) ≤ 1048576
-            → policy_of (policy_text self.now) ≡ Ok self.now) }
+        ensures short { OnOk result (length (policy_text self.now) < 900000) }
+        ensures again { OnOk result (policy_of (policy_text self.now) ≡ Ok self.now) }
     {
         laws::ids_are_read_as_written();
         let tree = self.tree(alloc)?;

@@ -11,6 +11,7 @@ ghost use Rattle.bp_eid.specs.EndpointId.{Fits};
 ghost use Rattle.bp_text.specs.Shape.{is_name};
 ghost use Rattle.bpsec_policy.specs.Rules.{allows};
 ghost use Rattle.bpsec_policy.specs.Words.{role_word, action_word, service_word};
+ghost use Rattle.bpsec_policy.specs.Ranges.{TargetFits};
 ghost use Rattle.bpsec_policy.specs.Written.{with, id_tree, target_tree};
 
 use crate::rule::{Action, Role, TargetKind};
@@ -213,7 +214,7 @@ impl Written for TargetKind {
 
     ghost tree = { target_tree };
 
-    ghost fits = { λ _. Unit {0} };
+    ghost fits = { TargetFits };
 
     fn value(&self, alloc: Global) -> Result<Value, NoMemory> {
         match self {
