@@ -112,6 +112,14 @@ impl KeyRing {
         KeyRing { keys }
     }
 
+    /// The keys, in their order. Takes no memory.
+    pub fn keys(&self) -> &[NamedKey]
+        ensures value { result.now ≡ self.now }
+        ensures rule { IsTrue (is_ring self.now) }
+    {
+        self.keys.items()
+    }
+
     /// The key with a name. Takes no memory.
     pub fn key(&self, name: &[u8]) -> Option<&[u8]>
         ensures { option_map (λ key. key.now) result ≡ key_of self.now name.now }
