@@ -1,2 +1,4 @@
 mod Completeness
+mod Files
+mod Lines
 mod Worlds

@@ -20,8 +20,8 @@ pub record Devices : Type 0 where
   pub failed_now : List (List ℕ)
 
 -- the content of the name, where it is told, else any
-abbrev pub IsFile : Devices → List ℕ → List ℕ → Type 0
-IsFile devices name content = IfSome devices.files (λ held. held name ≡ Some content)
+abbrev pub IsFile : Option (List ℕ → Option (List ℕ)) → List ℕ → List ℕ → Type 0
+IsFile files name content = IfSome files (λ held. held name ≡ Some content)
 
 -- The devices tell all of this world: its input, and of its files the content of each name that is held.
 pub record Tells (devices : Devices) (world : World) : Type 0 where
@@ -33,19 +33,19 @@ pub record Tells (devices : Devices) (world : World) : Type 0 where
 -- the work ends with this answer
 abbrev pub EndsWith : Devices → Job → Answer → Type 0
 EndsWith devices (Answered own) answer = answer ≡ own
-EndsWith devices (Fetch name next) answer = (content : List ℕ) × IsFile devices name content × EndsWith devices (next content) answer
+EndsWith devices (Fetch name next) answer = (content : List ℕ) × IsFile devices.files name content × EndsWith devices (next content) answer
 EndsWith devices (Read next) answer = (bytes : List ℕ) × IsInput devices.input bytes × EndsWith devices (next bytes) answer
 
 -- the work comes to a read of the input
 abbrev pub ComesToRead : Devices → Job → Type 0
 ComesToRead devices (Answered own) = ⊥
-ComesToRead devices (Fetch name next) = (content : List ℕ) × IsFile devices name content × ComesToRead devices (next content)
+ComesToRead devices (Fetch name next) = (content : List ℕ) × IsFile devices.files name content × ComesToRead devices (next content)
 ComesToRead devices (Read next) = Unit {0}
 
 -- the work comes to a fetch of this name
 abbrev pub ComesToFetch : Devices → Job → List ℕ → Type 0
 ComesToFetch devices (Answered own) name = ⊥
-ComesToFetch devices (Fetch own next) name = (name ≡ own) ⊎ ((content : List ℕ) × IsFile devices own content × ComesToFetch devices (next content) name)
+ComesToFetch devices (Fetch own next) name = (name ≡ own) ⊎ ((content : List ℕ) × IsFile devices.files own content × ComesToFetch devices (next content) name)
 ComesToFetch devices (Read next) name = ⊥
 
 abbrev pub input_fault : Answer

@@ -5,3 +5,4 @@ pub mod Due
 pub mod Delivery
 pub mod Statuses
 pub mod Slots
+pub mod Texts

@@ -1,49 +1,56 @@
--- Statuses, and what they say of the input.
+-- Statuses: the number of each, and what it says.
 use Rattle.std.specs.Prelude.{ℕ, Bool, true, false, IsTrue}
 use Rattle.bpsec_command.specs.declared.status.Status.{Status}
-use Rattle.bpsec_command.specs.declared.status.Status.TheVariants.{Done, Usage, BundleRefused, ReadFault, WriteFault, NoMemory}
+use Rattle.bpsec_command.specs.declared.status.Status.TheVariants.{Done, Usage, BundleRefused, PolicyRefused, TextRefused, ReadFault, WriteFault, NoMemory}
 
--- a status's number, the exit status of the program
+-- the command was done; it was refused before a read of the input, or after one; a device failed; no memory was left
+pub data Outcome : Type 0 where
+  Success : Outcome
+  RefusedEarly : Outcome
+  RefusedLate : Outcome
+  Fault : Outcome
+  Want : Outcome
+
+-- a status's number, the exit status of the program, and its outcome
+abbrev pub row_of : Status → ℕ × Outcome
+row_of Done = (0, Success)
+row_of (Usage word) = (2, RefusedEarly)
+row_of (BundleRefused refused) = (3, RefusedLate)
+row_of (PolicyRefused fault) = (4, RefusedEarly)
+row_of (TextRefused fault) = (6, RefusedEarly)
+row_of (ReadFault reading) = (7, Fault)
+row_of (WriteFault writing) = (8, Fault)
+row_of NoMemory = (9, Want)
+
 abbrev pub code_of : Status → ℕ
-code_of Done = 0
-code_of (Usage word) = 2
-code_of (BundleRefused refused) = 3
-code_of (ReadFault reading) = 7
-code_of (WriteFault writing) = 8
-code_of NoMemory = 9
+code_of status = (row_of status).0
 
--- the command was done
-abbrev pub is_success : Status → Bool
-is_success Done = true
-is_success (Usage word) = false
-is_success (BundleRefused refused) = false
-is_success (ReadFault reading) = false
-is_success (WriteFault writing) = false
-is_success NoMemory = false
+abbrev pub is_success : Outcome → Bool
+is_success Success = true
+is_success RefusedEarly = false
+is_success RefusedLate = false
+is_success Fault = false
+is_success Want = false
 
--- it was refused before a read of the input
-abbrev pub is_refused_early : Status → Bool
-is_refused_early Done = false
-is_refused_early (Usage word) = true
-is_refused_early (BundleRefused refused) = false
-is_refused_early (ReadFault reading) = false
-is_refused_early (WriteFault writing) = false
-is_refused_early NoMemory = false
+abbrev pub is_refused_early : Outcome → Bool
+is_refused_early Success = false
+is_refused_early RefusedEarly = true
+is_refused_early RefusedLate = false
+is_refused_early Fault = false
+is_refused_early Want = false
 
--- a device failed
-abbrev pub is_fault : Status → Bool
-is_fault Done = false
-is_fault (Usage word) = false
-is_fault (BundleRefused refused) = false
-is_fault (ReadFault reading) = true
-is_fault (WriteFault writing) = true
-is_fault NoMemory = false
+abbrev pub is_fault : Outcome → Bool
+is_fault Success = false
+is_fault RefusedEarly = false
+is_fault RefusedLate = false
+is_fault Fault = true
+is_fault Want = false
 
 abbrev pub IsSuccess : Status → Type 0
-IsSuccess status = IsTrue (is_success status)
+IsSuccess status = IsTrue (is_success (row_of status).1)
 
 abbrev pub IsRefusedEarly : Status → Type 0
-IsRefusedEarly status = IsTrue (is_refused_early status)
+IsRefusedEarly status = IsTrue (is_refused_early (row_of status).1)
 
 abbrev pub IsFault : Status → Type 0
-IsFault status = IsTrue (is_fault status)
+IsFault status = IsTrue (is_fault (row_of status).1)

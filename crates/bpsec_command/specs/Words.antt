@@ -1,8 +1,6 @@
 -- The grammar of the words after the program's name.
-use Rattle.std.specs.Prelude.{ℕ, ◌+◌, ◌==◌, ◌&&◌, max, nat_le, Bool, true, if◌then◌else◌, List, [], ◌∷◌, length, Result, Ok, Err, IsOkAnd, IsTrue, codes}
+use Rattle.std.specs.Prelude.{ℕ, ◌+◌, ◌==◌, ◌&&◌, max, nat_le, slice_index_or, Bool, true, false, if◌then◌else◌, List, [], ◌∷◌, length, Result, Ok, Err, IsOkAnd, IsTrue, codes}
 use Rattle.std.specs.Str.{bytes_eq}
-use Rattle.bpsec_command.specs.declared.words.Command.{Command}
-use Rattle.bpsec_command.specs.declared.words.Command.TheVariants.{Check, Explain}
 
 -- what stands at a place of a line: a word, or the name of a file, of 1 to 255 bytes
 pub data Slot : Type 0 where
@@ -13,10 +11,21 @@ abbrev pub fits : Slot → List ℕ → Bool
 fits (Exactly text) word = bytes_eq text word
 fits Name word = nat_le 1 (length word) && nat_le (length word) 255
 
+-- the commands, with the names that their lines give
+pub data Command : Type 0 where
+  Check : Command
+  Explain : Command
+  Build : List ℕ → Command
+  Upgrade : List ℕ → Command
+
 -- a line, and the command that words of this line are, with what its slots hold
 pub record Line : Type 0 where
   pub slots : List Slot
   pub command : List (List ℕ) → Command
+
+-- the word at a place of a line
+abbrev pub word_at : ℕ → List (List ℕ) → List ℕ
+word_at place words = slice_index_or words place []
 
 -- the lines, one for each command
 abbrev pub check_slots : List Slot
@@ -25,8 +34,19 @@ check_slots = Exactly (codes "check") ∷ []
 abbrev pub explain_slots : List Slot
 explain_slots = Exactly (codes "explain") ∷ []
 
+abbrev pub build_slots : List Slot
+build_slots = Exactly (codes "build") ∷ Exactly (codes "--text") ∷ Name ∷ []
+
+abbrev pub upgrade_slots : List Slot
+upgrade_slots = Exactly (codes "upgrade") ∷ Exactly (codes "--policy") ∷ Name ∷ []
+
 abbrev pub grammar : List Line
-grammar = record { slots = check_slots; command = λ _. Check } ∷ record { slots = explain_slots; command = λ _. Explain } ∷ []
+grammar =
+    record { slots = check_slots; command = λ _. Check }
+    ∷ record { slots = explain_slots; command = λ _. Explain }
+    ∷ record { slots = build_slots; command = λ words. Build (word_at 2 words) }
+    ∷ record { slots = upgrade_slots; command = λ words. Upgrade (word_at 2 words) }
+    ∷ []
 
 -- how many words from the front a line goes along with
 abbrev pub along : List Slot → List (List ℕ) → ℕ
@@ -49,13 +69,15 @@ abbrev pub command_in : List Line → List (List ℕ) → ℕ → Result Command
 command_in [] words faulty = Err faulty
 command_in (line ∷ lines) words faulty = if is_line line.slots words then Ok (line.command words) else command_in lines words faulty
 
-abbrev pub command_of : List (List ℕ) → Result Command ℕ
+unfoldable pub command_of : List (List ℕ) → Result Command ℕ
 command_of words = command_in grammar words (along_any grammar words)
 
 -- which commands read the input
 abbrev pub reads_input : Command → Bool
 reads_input Check = true
 reads_input Explain = true
+reads_input (Build text) = false
+reads_input (Upgrade policy) = false
 
 -- the words are a line of a command that reads the input
 abbrev pub ReadsInput : List (List ℕ) → Type 0

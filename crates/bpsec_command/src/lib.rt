@@ -12,6 +12,7 @@ mod program;
 mod refusals;
 mod respond;
 mod status;
+mod texts;
 mod words;
 
 pub use program::run;

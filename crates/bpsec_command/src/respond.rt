@@ -1,7 +1,7 @@
 //! From the words, the files and the input to the answer, all of it made in memory.
 
 ghost use Rattle.std.specs.Prelude.{◌≡◌, [], map, string_bytes, IfOk, IfSome, IsErrOf};
-ghost use Rattle.bpsec_command.specs.Answer.{Answered, Read, on_bundle, job};
+ghost use Rattle.bpsec_command.specs.Answer.{Answered, Read, on_bundle, text_refused, with_text, job};
 ghost use Rattle.bp_bundle.specs.FirstFault.{read_only};
 ghost use Rattle.bpsec_command.specs.Due.{IsDue, due_of};
 ghost use Rattle.bp_bundle.specs.WholeInput.{TakesAtMost, most_taken};
@@ -11,10 +11,13 @@ ghost use Rattle.bpsec_command.specs.declared.answer.Hindrance.{Hindrance};
 
 use crate::answer::{Answer, Hindrance};
 use crate::input::read_bundle;
-use crate::jobs::BundleJob;
+use crate::jobs::build::Build;
 use crate::jobs::check::Check;
 use crate::jobs::explain::Explain;
-use crate::refusals::{bundle_refused, usage};
+use crate::jobs::upgrade::Upgrade;
+use crate::jobs::{BundleJob, TextJob};
+use crate::refusals::{bundle_refused, text_refused, usage};
+use crate::texts::read_text;
 use crate::words::{Command, read_words};
 use bp_outside::{Shelf, Source};
 use std::alloc::Global;
@@ -23,29 +26,61 @@ use std::alloc::Global;
 fn on_bundle<S: Source, K: Shelf, J: BundleJob>(
     alloc: Global,
     input: &mut S,
-    shelf: &mut K,
+    shelf: &K,
     job: &J,
 ) -> Result<Answer, Hindrance>
     ensures due { IsDue (record {
       input = S.left input.old;
       input_before = S.faults input.old;
       input_now = S.faults input.new;
-      files = K.files shelf.old;
-      failed_before = K.failed shelf.old;
-      failed_now = K.failed shelf.new;
+      files = K.files shelf.now;
+      failed_before = K.failed shelf.now;
+      failed_now = K.failed shelf.now;
     })
         (Read (λ bytes. Answered (on_bundle (J.answer_to job.now) (read_only bytes)))) (due_of result) }
     ensures no_fault { IfOk result (λ answer. IsFault answer.status → ⊥) }
     ensures no_output { IfOk result (λ answer. (IsSuccess answer.status → ⊥) → answer.out ≡ []) }
-    ensures shelf_stays { shelf.new ≡ shelf.old }
+    ensures not_early { IfOk result (λ answer. IsRefusedEarly answer.status → ⊥) }
     ensures ended { IfOk result (λ answer. IsSuccess answer.status → IfSome (S.left input.new) (λ rest. rest ≡ [])) }
     ensures at_most { TakesAtMost most_taken (S.left input.old) (S.left input.new) }
     ensures reads_on { S.steady input.old → IsErrOf result Hindrance.Input → ⊥ }
+    ensures no_shelf { IsErrOf result Hindrance.Shelf → ⊥ }
 {
-    let _ = &*shelf;
+    let _ = shelf;
     let answer = match read_bundle(alloc, input)? {
         Ok(bundle) => job.answer(alloc, bundle)?,
         Err(fault) => bundle_refused(alloc, fault)?,
+    };
+    Ok(answer)
+}
+
+/// Fetches a file, reads it as a text, and does the job on that. The input isn't read.
+fn on_text<S: Source, K: Shelf, J: TextJob>(
+    alloc: Global,
+    input: &S,
+    shelf: &mut K,
+    name: &str,
+    job: &J,
+) -> Result<Answer, Hindrance>
+    ensures due { IsDue (record {
+      input = S.left input.now;
+      input_before = S.faults input.now;
+      input_now = S.faults input.now;
+      files = K.files shelf.old;
+      failed_before = K.failed shelf.old;
+      failed_now = K.failed shelf.new;
+    })
+        (with_text J.Text.reads (text_refused J.Text.ends J.Text.told_as) name.now (λ text. Answered (J.answer_to job.now text))) (due_of result) }
+    ensures no_fault { IfOk result (λ answer. IsFault answer.status → ⊥) }
+    ensures no_output { IfOk result (λ answer. (IsSuccess answer.status → ⊥) → answer.out ≡ []) }
+    ensures files { K.files shelf.new ≡ K.files shelf.old }
+    ensures fetches_on { K.steady shelf.old → IsErrOf result Hindrance.Shelf → ⊥ }
+    ensures no_input { IsErrOf result Hindrance.Input → ⊥ }
+{
+    let _ = input;
+    let answer = match read_text(alloc, shelf, name)? {
+        Ok(text) => job.answer(alloc, text)?,
+        Err(fault) => text_refused::<J::Text>(alloc, fault)?,
     };
     Ok(answer)
 }
@@ -80,6 +115,8 @@ pub fn respond<S: Source, K: Shelf>(
     match read_words(words) {
         Ok(Command::Check) => on_bundle(alloc, input, shelf, &Check),
         Ok(Command::Explain) => on_bundle(alloc, input, shelf, &Explain),
+        Ok(Command::Build { text }) => on_text(alloc, input, shelf, text, &Build),
+        Ok(Command::Upgrade { policy }) => on_text(alloc, input, shelf, policy, &Upgrade),
         Err(word) => Ok(usage(alloc, word)?),
     }
 }

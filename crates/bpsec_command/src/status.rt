@@ -3,6 +3,7 @@
 ghost use Rattle.std.specs.Prelude.{◌≡◌};
 ghost use Rattle.bpsec_command.specs.Statuses.{code_of};
 
+use bp_text::TextFault;
 use cbor_profile::Fault;
 
 /// How a run of the program ended.
@@ -14,6 +15,10 @@ pub enum Status {
     Usage { word: u64 },
     /// The input is refused.
     BundleRefused(Refused),
+    /// The text of the policy is refused.
+    PolicyRefused(TextFault),
+    /// The text of the bundle is refused.
+    TextRefused(TextFault),
     /// Reading failed.
     ReadFault(Reading),
     /// Writing failed. What went out is a prefix of what was due.
@@ -56,6 +61,8 @@ impl Status {
             Status::Done => 0,
             Status::Usage { .. } => 2,
             Status::BundleRefused(_) => 3,
+            Status::PolicyRefused(_) => 4,
+            Status::TextRefused(_) => 6,
             Status::ReadFault(_) => 7,
             Status::WriteFault(_) => 8,
             Status::NoMemory => 9,

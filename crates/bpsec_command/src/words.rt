@@ -1,17 +1,21 @@
 //! The first step: the words after the program's name, read as a line of the grammar.
 
 ghost use Rattle.std.specs.Prelude.{◌≡◌, ◌≤◌, length, map, string_bytes};
-ghost use Rattle.bpsec_command.specs.Words.{command_of};
+ghost use Rattle.bpsec_command.specs.Words.{word_at, command_of};
 ghost use Rattle.bpsec_command.specs.Words as grammar;
-ghost use Rattle.bpsec_command.specs.Slots.{slot_of};
+ghost use Rattle.bpsec_command.specs.Slots.{slot_of, told_by, read_as, or_line};
 
 /// A line of the grammar, with what its slots hold.
-#[derive(Clone, Copy, Debug, PartialEq, Eq)]
-pub enum Command {
+#[derive(Clone, Copy)]
+pub enum Command<'a> {
     /// `check`: whether the input is a bundle.
     Check,
     /// `explain`: the bundle in lines.
     Explain,
+    /// `build --text NAME`: the bundle of a text.
+    Build { text: &'a str },
+    /// `upgrade --policy NAME`: a policy as a text of version 2.
+    Upgrade { policy: &'a str },
 }
 
 /// What stands at a place of a line.
@@ -59,17 +63,61 @@ fn line(slots: &[Slot], words: &[String]) -> (bool, usize)
     (words.len() == slots.len() && along == slots.len(), along)
 }
 
-/// The command whose line the words are, or the index of the faulty word.
-pub fn read_words(words: &[String]) -> Result<Command, u64>
-    ensures { result ≡ command_of (map string_bytes words.now) }
+/// The word at a place of a line.
+fn word(words: &[String], place: usize) -> &str
+    ensures { result.now ≡ word_at place (map string_bytes words.now) }
 {
-    let (is_check, check) = line(&[Slot::Exactly("check")], words);
-    if is_check {
-        return Ok(Command::Check);
+    if place < words.len() {
+        words[place].as_str()
+    } else {
+        ""
     }
-    let (is_explain, explain) = line(&[Slot::Exactly("explain")], words);
-    if is_explain {
-        return Ok(Command::Explain);
+}
+
+/// What the lines before gave, else the command of this line, else the most words that one of them goes along with.
+fn or_line<'a>(
+    before: Result<Command<'a>, u64>,
+    slots: &[Slot],
+    words: &[String],
+    command: Command<'a>,
+) -> Result<Command<'a>, u64>
+    ensures { read_as result ≡ or_line (map slot_of slots.now) (map string_bytes words.now) (told_by command.entry) (read_as before.entry) }
+{
+    let Err(faulty) = before else {
+        return before;
+    };
+    match line(slots, words) {
+        (true, _) => Ok(command),
+        (false, along) => Err(faulty.max(along as u64)),
     }
-    Err(check.max(explain) as u64)
+}
+
+/// The command whose line the words are, or the index of the faulty word.
+pub fn read_words(words: &[String]) -> Result<Command<'_>, u64>
+    ensures { read_as result ≡ command_of (map string_bytes words.now) }
+{
+    let build = Command::Build {
+        text: word(words, 2),
+    };
+    let upgrade = Command::Upgrade {
+        policy: word(words, 2),
+    };
+    let read = or_line(Err(0), &[Slot::Exactly("check")], words, Command::Check);
+    let read = or_line(read, &[Slot::Exactly("explain")], words, Command::Explain);
+    let read = or_line(
+        read,
+        &[Slot::Exactly("build"), Slot::Exactly("--text"), Slot::Name],
+        words,
+        build,
+    );
+    or_line(
+        read,
+        &[
+            Slot::Exactly("upgrade"),
+            Slot::Exactly("--policy"),
+            Slot::Name,
+        ],
+        words,
+        upgrade,
+    )
 }

@@ -1,7 +1,8 @@
 //! `check`: how many bytes and canonical blocks the bundle has.
 
-ghost use Rattle.std.specs.Prelude.{◌≡◌, IfOk};
-ghost use Rattle.bpsec_command.specs.Answer.{checked};
+ghost use Rattle.std.specs.Prelude.{◌≡◌, length, IfOk};
+ghost use Rattle.bp_bundle.specs.Spelling.{spelling};
+ghost use Rattle.bpsec_command.specs.Answer.{checked, ok_line};
 
 use crate::answer::Answer;
 use crate::jobs::BundleJob;
@@ -9,6 +10,16 @@ use crate::status::Status;
 use bp_bundle::Bundle;
 use cbor_profile::{Bytes, NoMemory};
 use std::alloc::Global;
+
+/// The line that counts a bundle's bytes and canonical blocks.
+pub fn count_line(alloc: Global, bundle: &Bundle) -> Result<Bytes, NoMemory>
+    ensures { IfOk result (λ line. line ≡ ok_line (length (spelling bundle.now)) (length bundle.now.blocks)) }
+{
+    let bytes = bundle.size();
+    let blocks = bundle.blocks().len();
+    let line = format!(in alloc; "ok bytes={bytes} blocks={blocks}\n")?;
+    Ok(Bytes::of(line.into_bytes()))
+}
 
 /// The job of `check`.
 #[derive(Clone, Copy)]
@@ -18,12 +29,9 @@ impl BundleJob for Check {
     ghost answer_to = { λ _ bundle. checked bundle };
 
     fn answer(&self, alloc: Global, bundle: Bundle) -> Result<Answer, NoMemory> {
-        let bytes = bundle.size();
-        let blocks = bundle.blocks().len();
-        let line = format!(in alloc; "ok bytes={bytes} blocks={blocks}\n")?;
         Ok(Answer {
             status: Status::Done,
-            out: Bytes::of(line.into_bytes()),
+            out: count_line(alloc, &bundle)?,
             report: Bytes::new(alloc),
         })
     }
