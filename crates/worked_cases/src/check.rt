@@ -1,7 +1,7 @@
 //! `check`.
 
 use crate::inputs::{CHECKED, Input, PLAIN, bundles, first_faults};
-use crate::runs::{Given, run_on};
+use crate::runs::{Given, NOTHING, run_on};
 use bpsec_command::{Reading, Status, Writing};
 use std::process::Abort;
 use std::test::Fail;
@@ -19,9 +19,7 @@ fn given<'a>(words: &'a [&'a str], input: &'a [u8], most: usize) -> Given<'a> {
         words,
         input,
         most,
-        failing_reads: &[],
-        failing_writes: &[],
-        failing_report_writes: &[],
+        ..NOTHING
     }
 }
 

@@ -1,7 +1,7 @@
 //! `explain`.
 
 use crate::inputs::{Input, first_faults};
-use crate::runs::{Given, run_on};
+use crate::runs::{Given, NOTHING, run_on};
 use bpsec_command::Status;
 use std::test::Fail;
 
@@ -12,9 +12,7 @@ fn given<'a>(input: &'a [u8], most: usize) -> Given<'a> {
         words: EXPLAIN,
         input,
         most,
-        failing_reads: &[],
-        failing_writes: &[],
-        failing_report_writes: &[],
+        ..NOTHING
     }
 }
 

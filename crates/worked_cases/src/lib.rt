@@ -2,10 +2,20 @@
 #![tactic(auto)]
 
 #[cfg(test)]
+mod build;
+#[cfg(test)]
 mod check;
 #[cfg(test)]
 mod explain;
 #[cfg(test)]
 mod inputs;
 #[cfg(test)]
+mod policies;
+#[cfg(test)]
 mod runs;
+#[cfg(test)]
+mod shelf;
+#[cfg(test)]
+mod texts;
+#[cfg(test)]
+mod upgrade;

@@ -1,0 +1,118 @@
+//! `upgrade`.
+
+use crate::build::with;
+use crate::policies::{FIRST, SECOND, kept, refusals, second_refusals, upgraded};
+use crate::runs::{Given, Made, NOTHING, run_on};
+use crate::texts::Text;
+use bpsec_command::Status;
+use std::alloc::Global;
+use std::process::Abort;
+use std::test::Fail;
+
+const UPGRADE: &[&str; 3] = &["upgrade", "--policy", "p.json"];
+
+/// Runs `upgrade` on a policy, over an input that isn't to be read.
+fn upgrade(alloc: Global, policy: &str) -> Result<Made, Fail> {
+    Ok(run_on(
+        alloc,
+        &Given {
+            words: UPGRADE,
+            input: b"\x80",
+            files: &[("p.json", policy.as_bytes())],
+            failing_reads: &[0],
+            ..NOTHING
+        },
+    )?)
+}
+
+/// The policy with a piece in place of another is refused.
+fn expect_refusal(rt: &(impl Abort + AllocGlobal), policy: &str, case: &Text) -> Result<(), Fail> {
+    let (name, old, new, line) = *case;
+    let made = upgrade(rt.alloc(), with(rt.alloc(), policy, old, new)?.as_str())?;
+    assert_eq!(rt; made.status.code(), 4, "{name}");
+    assert_eq!(rt; made.report.as_slice(), line, "{name}");
+    assert_eq!(rt; made.out.as_slice(), b"".as_slice(), "{name}");
+    Ok(())
+}
+
+#[test]
+fn policies_are_refused(rt: HostRuntime) -> Result<(), Fail> {
+    for case in &refusals() {
+        expect_refusal(&rt, FIRST, case)?;
+    }
+    for case in &second_refusals() {
+        expect_refusal(&rt, SECOND, case)?;
+    }
+    Ok(())
+}
+
+/// The policy gives this text, and that text gives itself.
+fn expect_text(rt: &(impl Abort + AllocGlobal), policy: &str, text: &[u8]) -> Result<(), Fail> {
+    let made = upgrade(rt.alloc(), policy)?;
+    assert_eq!(rt; made.status, Status::Done);
+    assert_eq!(rt; made.out.as_slice(), text);
+    assert_eq!(rt; made.report.as_slice(), b"".as_slice());
+    let again = upgrade(rt.alloc(), str::from_utf8(text)?)?;
+    assert_eq!(rt; again.out.as_slice(), text);
+    Ok(())
+}
+
+#[test]
+fn policies_are_written(rt: HostRuntime) -> Result<(), Fail> {
+    let alloc = rt.alloc();
+    expect_text(
+        &rt,
+        FIRST,
+        br#"{"broken":"keep","default":{"failed":"keep","misset":"keep","role":"none"},"node":"ipn:9.1","required":[],"rules":[{"failed":"keep","key":"k1","misset":"keep","name":"rb","role":"acceptor","service":"bib"},{"failed":"keep","key":"cek","misset":"keep","name":"rc","role":"acceptor","service":"bcb"}],"version":2}"#,
+    )?;
+    for case in &upgraded() {
+        let (_, old, new, text) = *case;
+        expect_text(&rt, with(alloc, FIRST, old, new)?.as_str(), text)?;
+    }
+    for case in &kept() {
+        let (_, old, new, text) = *case;
+        expect_text(&rt, with(alloc, SECOND, old, new)?.as_str(), text)?;
+    }
+    Ok(())
+}
+
+/// So many rules, and so many requirements.
+fn many(alloc: Global, rules: u64, required: u64) -> Result<String, Fail> {
+    let mut text = String::from_str(
+        alloc,
+        r#"{"version":2,"node":"ipn:9.1","broken":"keep","default":{"role":"none","failed":"keep","misset":"keep"},"rules":["#,
+    )?;
+    for k in 0..rules {
+        let comma = if k == 0 { "" } else { "," };
+        let rule = format!(in alloc;
+            r#"{comma}{{"name":"r{k}","role":"none","failed":"keep","misset":"keep"}}"#
+        )?;
+        text.push_str(rule.as_str())?;
+    }
+    text.push_str(r#"],"required":["#)?;
+    for k in 0..required {
+        let comma = if k == 0 { "" } else { "," };
+        let requirement = format!(in alloc;
+            r#"{comma}{{"name":"q{k}","target":10,"service":"bib","missing":"keep"}}"#
+        )?;
+        text.push_str(requirement.as_str())?;
+    }
+    text.push_str("]}")?;
+    Ok(text)
+}
+
+#[test]
+fn a_policy_has_256_rules_and_64_requirements_at_most(rt: HostRuntime) -> Result<(), Fail> {
+    let alloc = rt.alloc();
+    let line = b"refused policy entry=- reason=TooMany\n".as_slice();
+    for (rules, required, code, report) in [
+        (256, 64, 0, b"".as_slice()),
+        (257, 0, 4, line),
+        (0, 65, 4, line),
+    ] {
+        let made = upgrade(alloc, many(alloc, rules, required)?.as_str())?;
+        assert_eq!(rt; made.status.code(), code);
+        assert_eq!(rt; made.report.as_slice(), report);
+    }
+    Ok(())
+}
