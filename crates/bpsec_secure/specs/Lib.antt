@@ -1,0 +1,11 @@
+pub mod Items
+pub mod Bibs
+pub mod Facts
+pub mod View
+pub mod Refusal
+pub mod Parameters
+pub mod Usable
+pub mod Secured
+pub mod Tags
+pub mod Answer
+pub mod Laws
