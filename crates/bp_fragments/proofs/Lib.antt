@@ -1,0 +1,16 @@
+mod Lists
+mod Covered
+mod Clashes
+mod Frames
+mod Sizes
+mod Cutting
+mod FragmentSizes
+mod AllFragments
+mod Same
+mod Members
+mod Bytes
+mod Adding
+mod Finishing
+mod Orders
+mod Cuts
+mod Parts

@@ -1,0 +1,11 @@
+pub mod Fragment
+pub mod Cut
+pub mod CutAnswer
+pub mod Known
+pub mod Agreement
+pub mod Joined
+pub mod Ready
+pub mod Spans
+pub mod Overlaid
+pub mod Kept
+pub mod Assembled
