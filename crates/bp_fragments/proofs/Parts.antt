@@ -1,10 +1,12 @@
 -- A joined bundle has its fragments as parts.
-use Rattle.std.proofs.Common.{◌≡◌, ℕ, ◌-◌, eq-eqb, List, [], ◌∷◌, length, Option, Some, None, Ok, sym, ◌∙◌, ap, arith}
+use Rattle.std.proofs.Common.{◌≡◌, ◌⊎◌, inl, inr, ◌<◌, ◌≤◌, ℕ, ◌-◌, eq-eqb, List, [], ◌∷◌, length, Option, Some, None, Ok, sym, ◌∙◌, ap, arith}
 use Rattle.std.specs.Prelude.{Contains, option_map, unwrap_or, is_none}
 use Rattle.std.specs.List.{slice_get, find, position}
-use Rattle.std.proofs.lemmas.Bool.{eqb-true}
+use Rattle.std.proofs.lemmas.Bool.{eqb-true, cases_lt}
+use Rattle.bp_fragments.proofs.Lists.{same_list, get_behind}
 use Rattle.std.proofs.lemmas.List.{length-map}
 use Rattle.std.proofs.lemmas.Option.{slice_get-map}
+use Rattle.bp_primary.specs.declared.primary.Primary.{Primary}
 use Rattle.bp_blocks.specs.declared.block.Block.{Block}
 use Rattle.bp_bundle.specs.Shape.{Contents}
 use Rattle.bp_bundle.specs.Spelling.{IsBundle}
@@ -16,7 +18,7 @@ use Rattle.bp_fragments.specs.Joined.{whole_payload, joined, IsJoined}
 use Rattle.bp_fragments.proofs.Members.{contains_first, find_is, is_found}
 use Rattle.bp_fragments.proofs.Bytes.{byte_within, byte_from, some_byte, length-known, get_known}
 use Rattle.bp_fragments.proofs.Same.{fields_are}
-use Rattle.bp_fragments.proofs.Finishing.{at_zero, gap_of}
+use Rattle.bp_fragments.proofs.Finishing.{at_zero, gap_of, known_some}
 use Rattle.bp_fragments.proofs.Orders.{joined_first, whole_same, joined_none}
 use Rattle.bp_fragments.proofs.Cuts.{with_twice, payload_there}
 
@@ -72,3 +74,28 @@ has_parts (first ∷ more) bundle agree bundles is =
       size = λ piece there. ap (λ (b : List ℕ). length b) own ∙ (length-map (known (first ∷ more)) (λ o. unwrap_or o 0) ∙ (length-known (first ∷ more) ∙ total_same first more piece agree there));
       bytes = λ piece place byte there has. ap (λ (b : List ℕ). slice_get b place) own ∙ byte_there first more piece place byte agree there has;
     }
+
+-- ---- there is one such bundle
+
+payload_one : (pieces : List Contents) (a b : Contents) → 0 < length pieces → position is_none (known pieces) ≡ None → IsJoined pieces a → IsJoined pieces b → payload a ≡ payload b
+payload_one [] a b some all joined_a joined_b = absurd (omega arith)
+payload_one (first ∷ more) a b some all joined_a joined_b = same_list (payload a) (payload b) (λ k. by_length k (cases_lt k (total_of first)))
+  where
+    there : Contains (first ∷ more) first
+    there = contains_first first more
+
+    by_length : (k : ℕ) → (k < total_of first) ⊎ (total_of first ≤ k) → slice_get (payload a) k ≡ slice_get (payload b) k
+    by_length k (inl less) =
+        let byte = known_some (first ∷ more) k less all in
+        let from = byte_from (first ∷ more) k byte.0 byte.1 in
+        joined_a.bytes from.0 k byte.0 from.1 from.2 ∙ sym (joined_b.bytes from.0 k byte.0 from.1 from.2)
+    by_length k (inr behind) =
+        get_behind (payload a) k (omega (arith, joined_a.size first there)) ∙ sym (get_behind (payload b) k (omega (arith, joined_b.size first there)))
+
+pub one_bundle : (pieces : List Contents) (a b : Contents) → 0 < length pieces → Agree pieces → position is_none (known pieces) ≡ None → IsJoined pieces a → IsJoined pieces b → a ≡ b
+one_bundle pieces a b some agree all joined_a joined_b =
+    let piece = at_zero pieces some agree all in
+    let bytes = payload_one pieces a b some all joined_a joined_b in
+    let blocks : a.blocks ≡ b.blocks = joined_a.blocks piece.0 piece.1 piece.2 ∙ (ap (λ (xs : List ℕ). with_payload xs piece.0.blocks) bytes ∙ sym (joined_b.blocks piece.0 piece.1 piece.2)) in
+    let primary : a.primary ≡ b.primary = joined_a.primary piece.0 piece.1 ∙ sym (joined_b.primary piece.0 piece.1) in
+    ap (λ (p : Primary). record { primary = p; blocks = a.blocks }) primary ∙ ap (λ (bs : List Block). record { primary = b.primary; blocks = bs }) blocks

@@ -33,8 +33,11 @@ pub fn a_cut_is_joined_again()
         → joined pieces ≡ Ok bundle }
 {}
 
-/// The bundle that fragments that agree are joined to has each of them as a part.
+/// The bundle that fragments that agree are joined to has each of them as a part; and where they leave no gap, there is one
+/// such bundle at most.
 pub fn joined_bundles_have_their_fragments()
-    ensures { (pieces : List Contents) (bundle : Contents) → Agree pieces → ((a : Contents) → Contains pieces a → IsBundle a) → joined pieces ≡ Ok bundle
+    ensures means { (pieces : List Contents) (bundle : Contents) → Agree pieces → ((a : Contents) → Contains pieces a → IsBundle a) → joined pieces ≡ Ok bundle
         → IsJoined pieces bundle }
+    ensures one { (pieces : List Contents) (a b : Contents) → 0 < length pieces → Agree pieces → position is_none (known pieces) ≡ None
+        → IsJoined pieces a → IsJoined pieces b → a ≡ b }
 {}
