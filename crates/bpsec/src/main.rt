@@ -4,7 +4,7 @@
 ghost use Rattle.std.specs.Prelude.{◌≡◌};
 ghost use Rattle.std.specs.Process.{exit_status};
 ghost use Rattle.bp_outside.specs.Outside.{Appended, Rose};
-ghost use Rattle.bpsec_command.specs.Due.{memory_fault};
+ghost use Rattle.bpsec_command.specs.Refusals.{memory_fault};
 ghost use Rattle.bpsec_command.specs.Statuses.{code_of};
 ghost use Rattle.bpsec_command.specs.declared.status.Status.TheVariants.{NoMemory, WriteFault};
 ghost use Rattle.bpsec_command.specs.declared.status.Writing.TheVariants.{Report};

@@ -2,7 +2,8 @@
 use Rattle.std.proofs.Common.{◌≡◌, ℕ, ◌<◌, List, [], length, inl, inr, refl, sym, subst, arith}
 use Rattle.bpsec_command.specs.declared.answer.Answer.{Answer}
 use Rattle.bpsec_command.specs.Answer.{Job}
-use Rattle.bpsec_command.specs.Due.{Devices, IsDue, EndsWith, memory_fault}
+use Rattle.bpsec_command.specs.Refusals.{memory_fault}
+use Rattle.bpsec_command.specs.Due.{Devices, IsDue, EndsWith}
 use Rattle.bpsec_command.specs.declared.status.Status.{Status}
 use Rattle.bpsec_command.specs.declared.status.Status.TheVariants.{WriteFault}
 use Rattle.bpsec_command.specs.declared.status.Writing.TheVariants.{Out, Report}

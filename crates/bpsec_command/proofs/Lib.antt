@@ -1,4 +1,7 @@
 mod Completeness
+mod Fetched
 mod Files
+mod Gathering
 mod Lines
+mod Numbers
 mod Worlds

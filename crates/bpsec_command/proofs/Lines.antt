@@ -1,13 +1,15 @@
 -- The lines of the grammar tried one after the other.
 use Rattle.std.proofs.Common.{◌≡◌, ℕ, Bool, true, false, cond, max, List, [], ◌∷◌, Result, Ok, Err, refl, ◌∙◌, ap, arith}
 use Rattle.bpsec_command.specs.Words.{Command, Line, along, is_line, along_any, command_in, grammar, command_of}
-use Rattle.bpsec_command.specs.Slots.{line_by_line}
+use Rattle.bpsec_command.specs.Slots.{or_line, line_by_line}
 
 found_first : (lines : List Line) (words : List (List ℕ)) (command : Command) → line_by_line lines words (Ok command) ≡ Ok command
+unfolding or_line
 found_first [] words command = refl
 found_first (line ∷ lines) words command = found_first lines words command
 
 later : (lines : List Line) (words : List (List ℕ)) (faulty : ℕ) → line_by_line lines words (Err faulty) ≡ command_in lines words (max faulty (along_any lines words))
+unfolding or_line
 later [] words faulty = let e : faulty ≡ max faulty 0 = omega arith in ap (λ (n : ℕ). let r : Result Command ℕ = Err n in r) e
 later (line ∷ lines) words faulty = at (is_line line.slots words) (later lines words (max faulty (along line.slots words)))
   where

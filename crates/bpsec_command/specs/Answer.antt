@@ -1,22 +1,19 @@
 -- What the program answers: a plain function of its words, its files and its input.
-use Rattle.std.specs.Prelude.{ℕ, List, [], ◌∷◌, ◌++◌, length, Option, Some, None, Result, Ok, Err, codes}
-use Rattle.std.specs.Fmt.{decimal}
+use Rattle.std.specs.Prelude.{ℕ, List, Result, Ok, Err, codes}
 use Rattle.cbor_profile.specs.declared.fault.Fault.{Fault}
 use Rattle.bp_bundle.specs.Shape.{Contents}
 use Rattle.bp_bundle.specs.FirstFault.{read_only}
-use Rattle.bp_bundle.specs.Spelling.{spelling}
 use Rattle.bp_text.specs.declared.fault.TextFault.{TextFault}
 use Rattle.bp_build.specs.BuildText.{build_of}
-use Rattle.bpsec_explain.specs.Lines.{explanation}
-use Rattle.bpsec_policy.specs.Rules.{Parts}
 use Rattle.bpsec_policy.specs.PolicyText.{policy_of}
-use Rattle.bpsec_policy.specs.Written.{policy_text}
+use Rattle.bpsec_policy.specs.RingText.{ring_of}
+use Rattle.bpsec_plan.specs.PlanText.{plan_of}
 use Rattle.bpsec_command.specs.declared.answer.Answer.{Answer}
-use Rattle.bpsec_command.specs.declared.status.Status.{Status}
-use Rattle.bpsec_command.specs.declared.status.Status.TheVariants.{Done, Usage, BundleRefused, PolicyRefused, TextRefused}
-use Rattle.bpsec_command.specs.declared.status.Refused.TheVariants as refused
-use Rattle.bpsec_command.specs.Reasons.{reason_name, text_reason_name}
-use Rattle.bpsec_command.specs.Words.{Command, Check, Explain, Build, Upgrade, command_of}
+use Rattle.bpsec_command.specs.declared.status.Status.TheVariants.{PolicyRefused, RingRefused, TextRefused}
+use Rattle.bpsec_command.specs.Refusals.{usage, bundle_refused, text_refused}
+use Rattle.bpsec_command.specs.Done.{checked, explained, built, upgraded, secured, fragmented}
+use Rattle.bpsec_command.specs.Reassembled.{reassembled}
+use Rattle.bpsec_command.specs.Words.{Command, Check, Explain, Build, Upgrade, Secure, Fragment, Reassemble, command_of}
 
 -- ---- what is done, in order
 
@@ -26,39 +23,6 @@ pub data Job : Type 0 where
   Answered : Answer → Job
   Fetch : List ℕ → (List ℕ → Job) → Job
   Read : (List ℕ → Job) → Job
-
--- ---- lines
-
-abbrev pub line : List ℕ → List ℕ
-line text = text ++ 10 ∷ []
-
-abbrev pub ok_line : ℕ → ℕ → List ℕ
-ok_line bytes blocks = line (codes "ok bytes=" ++ decimal bytes ++ codes " blocks=" ++ decimal blocks)
-
-abbrev pub refused_line : Fault → List ℕ
-refused_line fault = line (codes "refused bundle place=" ++ decimal fault.place ++ codes " reason=" ++ reason_name fault.reason)
-
--- the index of an entry, or a dash
-abbrev pub entry_text : Option ℕ → List ℕ
-entry_text None = codes "-"
-entry_text (Some entry) = decimal entry
-
-abbrev pub text_line : List ℕ → TextFault → List ℕ
-text_line word fault =
-    line (codes "refused " ++ word ++ codes " entry=" ++ entry_text fault.entry ++ codes " reason=" ++ text_reason_name fault.reason)
-
--- ---- refusals
-
-abbrev pub usage : ℕ → Answer
-usage word = record { status = Usage word; out = []; report = line (codes "usage word=" ++ decimal word) }
-
--- an input that is no bundle
-abbrev pub bundle_refused : Fault → Answer
-bundle_refused fault = record { status = BundleRefused (refused.Fault fault); out = []; report = refused_line fault }
-
--- a text that breaks a rule, told by a word for texts of its kind
-abbrev pub text_refused : (TextFault → Status) → List ℕ → TextFault → Answer
-text_refused status word fault = record { status = status fault; out = []; report = text_line word fault }
 
 -- ---- what comes after a text, and after the input
 
@@ -76,24 +40,6 @@ abbrev pub on_bundle : (Contents → Answer) → Result Contents Fault → Answe
 on_bundle answer (Ok bundle) = answer bundle
 on_bundle answer (Err fault) = bundle_refused fault
 
--- ---- what each command answers
-
--- `check`: how many bytes and canonical blocks the bundle has
-abbrev pub checked : Contents → Answer
-checked bundle = record { status = Done; out = ok_line (length (spelling bundle)) (length bundle.blocks); report = [] }
-
--- `explain`: the lines of the bundle
-abbrev pub explained : Contents → Answer
-explained bundle = record { status = Done; out = explanation bundle; report = [] }
-
--- `build`: the bundle's spelling, and how many bytes and canonical blocks it has
-abbrev pub built : Contents → Answer
-built bundle = record { status = Done; out = spelling bundle; report = ok_line (length (spelling bundle)) (length bundle.blocks) }
-
--- `upgrade`: the policy as a text of version 2, without a newline
-abbrev pub upgraded : Parts → Answer
-upgraded policy = record { status = Done; out = policy_text policy; report = [] }
-
 -- ---- the commands
 
 abbrev pub job_of : Command → Job
@@ -101,6 +47,12 @@ job_of Check = Read (λ input. Answered (on_bundle checked (read_only input)))
 job_of Explain = Read (λ input. Answered (on_bundle explained (read_only input)))
 job_of (Build text) = with_text build_of (text_refused TextRefused (codes "text")) text (λ bundle. Answered (built bundle))
 job_of (Upgrade policy) = with_text policy_of (text_refused PolicyRefused (codes "policy")) policy (λ parts. Answered (upgraded parts))
+job_of (Secure plan keys) =
+    with_text plan_of (text_refused TextRefused (codes "text")) plan (λ items.
+    with_text ring_of (text_refused RingRefused (codes "keys")) keys (λ ring.
+    Read (λ input. Answered (on_bundle (secured items ring) (read_only input)))))
+job_of (Fragment size) = Read (λ input. Answered (on_bundle (fragmented size) (read_only input)))
+job_of Reassemble = Read (λ input. Answered (reassembled input))
 
 abbrev pub job_in : Result Command ℕ → Job
 job_in (Ok command) = job_of command

@@ -1,13 +1,12 @@
 -- What is due to be delivered, by what the devices did in a run. Here alone is spoken of bytes that aren't told: of them it is
 -- said that some content, or some input, makes it so.
-use Rattle.std.specs.Prelude.{◌≡◌, ℕ, ◌⊎◌, List, [], ◌∷◌, ◌++◌, Option, Some, Result, Ok, Err, IfSome, codes}
+use Rattle.std.specs.Prelude.{◌≡◌, ℕ, ◌⊎◌, List, [], ◌∷◌, ◌++◌, Option, Some, Result, Ok, Err, IfSome}
 use Rattle.bp_outside.specs.Outside.{Rose}
 use Rattle.bpsec_command.specs.declared.answer.Answer.{Answer}
 use Rattle.bpsec_command.specs.declared.answer.Hindrance.{Hindrance}
 use Rattle.bpsec_command.specs.declared.answer.Hindrance.TheVariants as hindrances
-use Rattle.bpsec_command.specs.declared.status.Status.TheVariants.{ReadFault, NoMemory}
-use Rattle.bpsec_command.specs.declared.status.Reading.TheVariants.{Input, Shelf}
-use Rattle.bpsec_command.specs.Answer.{Job, Answered, Fetch, Read, World, line}
+use Rattle.bpsec_command.specs.Answer.{Job, Answered, Fetch, Read, World}
+use Rattle.bpsec_command.specs.Refusals.{input_fault, shelf_fault, memory_fault}
 use Rattle.bp_bundle.specs.WholeInput.{IsInput}
 
 -- what the input and the shelf told before the run, and their faults before and after it
@@ -47,15 +46,6 @@ abbrev pub ComesToFetch : Devices → Job → List ℕ → Type 0
 ComesToFetch devices (Answered own) name = ⊥
 ComesToFetch devices (Fetch own next) name = (name ≡ own) ⊎ ((content : List ℕ) × IsFile devices.files own content × ComesToFetch devices (next content) name)
 ComesToFetch devices (Read next) name = ⊥
-
-abbrev pub input_fault : Answer
-input_fault = record { status = ReadFault Input; out = []; report = line (codes "fault read input") }
-
-abbrev pub shelf_fault : Answer
-shelf_fault = record { status = ReadFault Shelf; out = []; report = line (codes "fault read shelf") }
-
-abbrev pub memory_fault : Answer
-memory_fault = record { status = NoMemory; out = []; report = line (codes "fault memory") }
 
 -- Nothing failed: the answer is due, or no memory was left.
 pub record IsAnswered (devices : Devices) (work : Job) (due : Answer) : Type 0 where

@@ -1,5 +1,8 @@
 pub mod Words
 pub mod Reasons
+pub mod Refusals
+pub mod Done
+pub mod Reassembled
 pub mod Answer
 pub mod Due
 pub mod Delivery

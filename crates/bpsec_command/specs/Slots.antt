@@ -10,19 +10,23 @@ use Rattle.bpsec_command.specs.Words.{Slot, Command, Line, along, is_line}
 abbrev pub slot_of : written.Slot → Slot
 slot_of (slots.Exactly text) = grammar.Exactly text.now
 slot_of slots.Name = grammar.Name
+slot_of slots.Number = grammar.Number
 
 abbrev pub told_by : told.Command → Command
 told_by commands.Check = grammar.Check
 told_by commands.Explain = grammar.Explain
 told_by (commands.Build text) = grammar.Build text.now
 told_by (commands.Upgrade policy) = grammar.Upgrade policy.now
+told_by (commands.Secure plan keys) = grammar.Secure plan.now keys.now
+told_by (commands.Fragment size) = grammar.Fragment size
+told_by commands.Reassemble = grammar.Reassemble
 
 abbrev pub read_as : Result told.Command ℕ → Result Command ℕ
 read_as (Ok command) = Ok (told_by command)
 read_as (Err word) = Err word
 
 -- what the lines before gave, else the command of this line, else the most words that one of them goes along with
-abbrev pub or_line : List Slot → List (List ℕ) → Command → Result Command ℕ → Result Command ℕ
+unfoldable pub or_line : List Slot → List (List ℕ) → Command → Result Command ℕ → Result Command ℕ
 or_line slots words command (Ok found) = Ok found
 or_line slots words command (Err faulty) = if is_line slots words then Ok command else Err (max faulty (along slots words))
 

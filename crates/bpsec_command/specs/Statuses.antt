@@ -1,7 +1,7 @@
 -- Statuses: the number of each, and what it says.
 use Rattle.std.specs.Prelude.{ℕ, Bool, true, false, IsTrue}
 use Rattle.bpsec_command.specs.declared.status.Status.{Status}
-use Rattle.bpsec_command.specs.declared.status.Status.TheVariants.{Done, Usage, BundleRefused, PolicyRefused, TextRefused, ReadFault, WriteFault, NoMemory}
+use Rattle.bpsec_command.specs.declared.status.Status.TheVariants.{Done, Usage, BundleRefused, PolicyRefused, RingRefused, TextRefused, ReadFault, WriteFault, NoMemory, PlanRefused, PiecesRefused}
 
 -- the command was done; it was refused before a read of the input, or after one; a device failed; no memory was left
 pub data Outcome : Type 0 where
@@ -17,10 +17,13 @@ row_of Done = (0, Success)
 row_of (Usage word) = (2, RefusedEarly)
 row_of (BundleRefused refused) = (3, RefusedLate)
 row_of (PolicyRefused fault) = (4, RefusedEarly)
+row_of (RingRefused fault) = (5, RefusedEarly)
 row_of (TextRefused fault) = (6, RefusedEarly)
 row_of (ReadFault reading) = (7, Fault)
 row_of (WriteFault writing) = (8, Fault)
 row_of NoMemory = (9, Want)
+row_of (PlanRefused reason at) = (10, RefusedLate)
+row_of (PiecesRefused reason at) = (11, RefusedLate)
 
 abbrev pub code_of : Status → ℕ
 code_of status = (row_of status).0

@@ -10,6 +10,8 @@ use Rattle.bp_bundle.specs.Shape.{Contents}
 use Rattle.bp_build.specs.BuildText.{build_of}
 use Rattle.bpsec_policy.specs.Rules.{Parts}
 use Rattle.bpsec_policy.specs.PolicyText.{policy_of}
+use Rattle.bpsec_policy.specs.RingText.{ring_of}
+use Rattle.bpsec_plan.specs.PlanText.{plan_of}
 
 abbrev pub too_long : TextFault
 too_long = record { entry = None; reason = TooLong }
@@ -23,3 +25,9 @@ long_builds bytes long = rw (long_trees bytes long) refl
 
 pub long_policies : (bytes : List ℕ) → 1048576 < length bytes → policy_of bytes ≡ Err too_long
 long_policies bytes long = rw (long_trees bytes long) refl
+
+pub long_plans : (bytes : List ℕ) → 1048576 < length bytes → plan_of bytes ≡ Err too_long
+long_plans bytes long = rw (long_trees bytes long) refl
+
+pub long_rings : (bytes : List ℕ) → 1048576 < length bytes → ring_of bytes ≡ Err too_long
+long_rings bytes long = rw (long_trees bytes long) refl

@@ -9,6 +9,7 @@ mod input;
 mod jobs;
 pub mod laws;
 mod program;
+mod reassemble;
 mod refusals;
 mod respond;
 mod status;
@@ -16,4 +17,4 @@ mod texts;
 mod words;
 
 pub use program::run;
-pub use status::{Reading, Refused, Status, Writing};
+pub use status::{PiecesReason, Reading, Refused, Status, Writing};

@@ -2,12 +2,13 @@
 
 ghost use Rattle.std.specs.Prelude.{◌≡◌, [], map, string_bytes, IfSome};
 ghost use Rattle.bpsec_command.specs.Answer.{job};
+ghost use Rattle.bpsec_command.specs.Refusals.{memory_fault};
 ghost use Rattle.bpsec_command.specs.declared.answer.Answer.{Answer};
-ghost use Rattle.bpsec_command.specs.Due.{IsDue, EndsWith, memory_fault};
+ghost use Rattle.bpsec_command.specs.Due.{IsDue, EndsWith};
 ghost use Rattle.bpsec_command.specs.Delivery.{IsDelivered, Takes};
-ghost use Rattle.bp_bundle.specs.WholeInput.{TakesAtMost, most_taken};
+ghost use Rattle.bp_bundle.specs.WholeInput.{TakesAtMost};
 ghost use Rattle.bpsec_command.specs.Statuses.{IsSuccess, IsRefusedEarly, IsFault};
-ghost use Rattle.bpsec_command.specs.Words.{ReadsInput};
+ghost use Rattle.bpsec_command.specs.Words.{ReadsInput, command_of, most_taken_for};
 ghost use Rattle.bpsec_command.specs.declared.status.Status.TheVariants.{WriteFault};
 ghost use Rattle.bpsec_command.specs.declared.status.Writing.TheVariants.{Out, Report};
 
@@ -49,7 +50,7 @@ pub fn run<S: Source, K: Shelf, W: Sink, R: Sink>(
     ensures ended { IsSuccess result → ReadsInput (map string_bytes words.now) → IfSome (S.left input.new) (λ rest. rest ≡ []) }
     ensures unread { IsRefusedEarly result → input.new ≡ input.old }
     ensures unread_words { (ReadsInput (map string_bytes words.now) → ⊥) → input.new ≡ input.old }
-    ensures at_most { TakesAtMost most_taken (S.left input.old) (S.left input.new) }
+    ensures at_most { TakesAtMost (most_taken_for (command_of (map string_bytes words.now))) (S.left input.old) (S.left input.new) }
     ensures files { K.files shelf.new ≡ K.files shelf.old }
 
     // Nothing fails over steady devices whose sinks take what is due.

@@ -1,13 +1,14 @@
 //! The answers of refusals, a line of the report each.
 
 ghost use Rattle.std.specs.Prelude.{◌≡◌, string_bytes, IfOk};
-ghost use Rattle.bpsec_command.specs.Answer.{bundle_refused, entry_text, text_line, text_refused, usage};
+ghost use Rattle.bpsec_command.specs.Refusals.{at_text, bundle_refused, pieces_refused, plan_refused, reason_line, text_line, text_refused, usage};
 ghost use Rattle.bpsec_command.specs.Reasons as names;
 
 use crate::answer::{Answer, refusal};
-use crate::status::{Refused, Status};
+use crate::status::{PiecesReason, Refused, Status};
 use crate::texts::NamedText;
 use bp_text::{TextFault, TextReason};
+use bpsec_secure::PlanReason;
 use cbor_profile::{Fault, NoMemory, Reason};
 use std::alloc::Global;
 
@@ -65,12 +66,12 @@ fn text_reason_name(reason: TextReason) -> &'static str
     }
 }
 
-/// The index of an entry, or a dash.
-fn entry_text(alloc: Global, entry: Option<u64>) -> Result<String, NoMemory>
-    ensures { IfOk result (λ text. string_bytes text ≡ entry_text entry) }
+/// An index, a number or a place, or a dash.
+fn at_text(alloc: Global, at: Option<u64>) -> Result<String, NoMemory>
+    ensures { IfOk result (λ text. string_bytes text ≡ at_text at) }
 {
-    match entry {
-        Some(entry) => Ok(format!(in alloc; "{entry}")?),
+    match at {
+        Some(at) => Ok(format!(in alloc; "{at}")?),
         None => Ok(String::from_str(alloc, "-")?),
     }
 }
@@ -79,7 +80,7 @@ fn entry_text(alloc: Global, entry: Option<u64>) -> Result<String, NoMemory>
 fn text_line(alloc: Global, word: &str, fault: TextFault) -> Result<String, NoMemory>
     ensures { IfOk result (λ line. string_bytes line ≡ text_line word.now fault) }
 {
-    let entry = entry_text(alloc, fault.entry)?;
+    let entry = at_text(alloc, fault.entry)?;
     let entry = entry.as_str();
     let reason = text_reason_name(fault.reason);
     Ok(format!(in alloc; "refused {word} entry={entry} reason={reason}\n")?)
@@ -91,4 +92,80 @@ pub fn text_refused<T: NamedText>(alloc: Global, fault: TextFault) -> Result<Ans
 {
     let line = text_line(alloc, T::word(), fault)?;
     Ok(refusal(alloc, T::status(fault), line))
+}
+
+/// The line of a reason, and where.
+fn reason_line(alloc: Global, word: &str, reason: &str, at: Option<u64>) -> Result<String, NoMemory>
+    ensures { IfOk result (λ line. string_bytes line ≡ reason_line word.now reason.now at) }
+{
+    let at = at_text(alloc, at)?;
+    let at = at.as_str();
+    Ok(format!(in alloc; "refused {word} reason={reason} at={at}\n")?)
+}
+
+/// The name of a reason.
+fn plan_reason_name(reason: PlanReason) -> &'static str
+    ensures { result.now ≡ names.plan_reason_name reason }
+{
+    match reason {
+        PlanReason::IsFragment => "IsFragment",
+        PlanReason::Unreadable => "Unreadable",
+        PlanReason::BadSplit => "BadSplit",
+        PlanReason::NoTarget => "NoTarget",
+        PlanReason::TargetForbidden => "TargetForbidden",
+        PlanReason::AlreadyThere => "AlreadyThere",
+        PlanReason::UnderCipher => "UnderCipher",
+        PlanReason::NumberTaken => "NumberTaken",
+        PlanReason::NoKey => "NoKey",
+        PlanReason::KeyLength => "KeyLength",
+        PlanReason::IvShared => "IvShared",
+        PlanReason::IvRepeated => "IvRepeated",
+        PlanReason::NoSharedTarget => "NoSharedTarget",
+        PlanReason::PartialOverlap => "PartialOverlap",
+        PlanReason::BibLeftPlain => "BibLeftPlain",
+        PlanReason::PrimaryCovered => "PrimaryCovered",
+        PlanReason::BadFlags => "BadFlags",
+        PlanReason::TooManyBlocks => "TooManyBlocks",
+        PlanReason::TooLong => "TooLong",
+    }
+}
+
+/// The answer to a plan that can't be applied.
+pub fn plan_refused(alloc: Global, reason: PlanReason, at: Option<u64>) -> Result<Answer, NoMemory>
+    ensures { IfOk result (λ answer. answer ≡ plan_refused reason at) }
+{
+    let line = reason_line(alloc, "plan", plan_reason_name(reason), at)?;
+    Ok(refusal(alloc, Status::PlanRefused { reason, at }, line))
+}
+
+/// The name of a reason.
+fn pieces_reason_name(reason: PiecesReason) -> &'static str
+    ensures { result.now ≡ names.pieces_reason_name reason }
+{
+    match reason {
+        PiecesReason::IsFragment => "IsFragment",
+        PiecesReason::MustNotFragment => "MustNotFragment",
+        PiecesReason::PieceZero => "PieceZero",
+        PiecesReason::TooMany => "TooMany",
+        PiecesReason::TooLong => "TooLong",
+        PiecesReason::NotFragment => "NotFragment",
+        PiecesReason::OtherBundle => "OtherBundle",
+        PiecesReason::PastTotal => "PastTotal",
+        PiecesReason::OverLimit => "OverLimit",
+        PiecesReason::OtherBlocks => "OtherBlocks",
+        PiecesReason::Disagree => "Disagree",
+        PiecesReason::Gap => "Gap",
+    }
+}
+
+/// The answer where fragments aren't made.
+pub fn pieces_refused(
+    alloc: Global,
+    reason: PiecesReason,
+    at: Option<u64>,
+) -> Result<Answer, NoMemory>
+    ensures { IfOk result (λ answer. answer ≡ pieces_refused reason at) }
+{
+    let line = reason_line(alloc, "pieces", pieces_reason_name(reason), at)?;
+    Ok(refusal(alloc, Status::PiecesRefused { reason, at }, line))
 }

@@ -4,6 +4,7 @@ ghost use Rattle.std.specs.Prelude.{◌≡◌};
 ghost use Rattle.bpsec_command.specs.Statuses.{code_of};
 
 use bp_text::TextFault;
+use bpsec_secure::PlanReason;
 use cbor_profile::Fault;
 
 /// How a run of the program ended.
@@ -12,12 +13,16 @@ pub enum Status {
     /// The command was done.
     Done,
     /// The words are no line of the grammar: this is the index of the faulty word.
-    Usage { word: u64 },
+    Usage {
+        word: u64,
+    },
     /// The input is refused.
     BundleRefused(Refused),
     /// The text of the policy is refused.
     PolicyRefused(TextFault),
-    /// The text of the bundle is refused.
+    /// The text of the key ring is refused.
+    RingRefused(TextFault),
+    /// The text of the bundle or of the plan is refused.
     TextRefused(TextFault),
     /// Reading failed.
     ReadFault(Reading),
@@ -25,6 +30,16 @@ pub enum Status {
     WriteFault(Writing),
     /// No memory was left.
     NoMemory,
+    /// The plan can't be applied to the bundle: the first reason, and the index of an item or the number of a block.
+    PlanRefused {
+        reason: PlanReason,
+        at: Option<u64>,
+    },
+    /// The bundle can't be cut so, or the fragments can't be joined: why, and at which place of the whole payload.
+    PiecesRefused {
+        reason: PiecesReason,
+        at: Option<u64>,
+    },
 }
 
 /// Why an input is refused.
@@ -32,6 +47,35 @@ pub enum Status {
 pub enum Refused {
     /// It is no bundle: this is its first fault.
     Fault(Fault),
+}
+
+/// Why a bundle isn't cut, or fragments aren't joined.
+#[derive(Clone, Copy, Debug, PartialEq, Eq)]
+pub enum PiecesReason {
+    /// It is a fragment.
+    IsFragment,
+    /// Its flags forbid that.
+    MustNotFragment,
+    /// A fragment would have no payload.
+    PieceZero,
+    /// There would be more than 256 fragments.
+    TooMany,
+    /// A fragment, or the bundle that they are joined to, would have more bytes than the bundle limit.
+    TooLong,
+    /// The bundle is no fragment.
+    NotFragment,
+    /// The fragment is of another bundle.
+    OtherBundle,
+    /// The fragment ends behind the whole payload.
+    PastTotal,
+    /// The whole payload has more bytes than the bundle limit.
+    OverLimit,
+    /// Two fragments of offset 0 have other blocks.
+    OtherBlocks,
+    /// Two fragments differ in a byte.
+    Disagree,
+    /// No fragment covers a place.
+    Gap,
 }
 
 /// What couldn't be read.
@@ -62,10 +106,13 @@ impl Status {
             Status::Usage { .. } => 2,
             Status::BundleRefused(_) => 3,
             Status::PolicyRefused(_) => 4,
+            Status::RingRefused(_) => 5,
             Status::TextRefused(_) => 6,
             Status::ReadFault(_) => 7,
             Status::WriteFault(_) => 8,
             Status::NoMemory => 9,
+            Status::PlanRefused { .. } => 10,
+            Status::PiecesRefused { .. } => 11,
         }
     }
 }

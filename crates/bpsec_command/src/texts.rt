@@ -5,13 +5,15 @@ ghost use Rattle.bp_text.specs.Fault.{Gives};
 ghost use Rattle.bp_text.specs.declared.fault.TextFault.{TextFault};
 ghost use Rattle.bp_text.specs.declared.fault.TextReason.TheVariants.{TooLong};
 ghost use Rattle.bp_build.specs.BuildText.{build_of};
+ghost use Rattle.bpsec_plan.specs.PlanText.{plan_of};
 ghost use Rattle.bpsec_policy.specs.PolicyText.{policy_of};
+ghost use Rattle.bpsec_policy.specs.RingText.{ring_of};
 ghost use Rattle.bpsec_command.specs.Due.{IsFile};
 ghost use Rattle.bpsec_command.specs.Statuses.{IsRefusedEarly};
-ghost use Rattle.bpsec_command.specs.Texts.{long_builds, long_policies};
+ghost use Rattle.bpsec_command.specs.Texts.{long_builds, long_plans, long_policies, long_rings};
 ghost use Rattle.bpsec_command.specs.declared.answer.Hindrance.{Hindrance};
 ghost use Rattle.bpsec_command.specs.declared.status.Status.{Status};
-ghost use Rattle.bpsec_command.specs.declared.status.Status.TheVariants.{PolicyRefused, TextRefused};
+ghost use Rattle.bpsec_command.specs.declared.status.Status.TheVariants.{PolicyRefused, RingRefused, TextRefused};
 
 use crate::answer::Hindrance;
 use crate::status::Status;
@@ -19,7 +21,8 @@ use bp_build::bundle_from_json;
 use bp_bundle::Bundle;
 use bp_outside::{FetchFault, Shelf};
 use bp_text::{TEXT_LIMIT, TextError, TextFault, TextReason};
-use bpsec_policy::Policy;
+use bpsec_plan::Plan;
+use bpsec_policy::{KeyRing, Policy};
 use cbor_profile::Bytes;
 use std::alloc::Global;
 
@@ -95,6 +98,55 @@ impl NamedText for Policy {
     }
 
     ghost long = { long_policies };
+
+    ghost early = { λ _. refl };
+}
+
+/// The plan of `secure`.
+impl NamedText for Plan {
+    ghost reads = { plan_of };
+
+    ghost told_as = { codes "text" };
+
+    ghost ends = { λ fault. TextRefused fault };
+
+    fn read(alloc: Global, bytes: &[u8]) -> Result<Plan, TextError> {
+        Plan::from_json(alloc, bytes)
+    }
+
+    fn word() -> &'static str {
+        "text"
+    }
+
+    fn status(fault: TextFault) -> Status {
+        Status::TextRefused(fault)
+    }
+
+    ghost long = { long_plans };
+
+    ghost early = { λ _. refl };
+}
+
+impl NamedText for KeyRing {
+    ghost reads = { ring_of };
+
+    ghost told_as = { codes "keys" };
+
+    ghost ends = { λ fault. RingRefused fault };
+
+    fn read(alloc: Global, bytes: &[u8]) -> Result<KeyRing, TextError> {
+        KeyRing::from_json(alloc, bytes)
+    }
+
+    fn word() -> &'static str {
+        "keys"
+    }
+
+    fn status(fault: TextFault) -> Status {
+        Status::RingRefused(fault)
+    }
+
+    ghost long = { long_rings };
 
     ghost early = { λ _. refl };
 }

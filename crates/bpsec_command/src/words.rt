@@ -1,7 +1,8 @@
 //! The first step: the words after the program's name, read as a line of the grammar.
 
-ghost use Rattle.std.specs.Prelude.{◌≡◌, ◌≤◌, length, map, string_bytes};
-ghost use Rattle.bpsec_command.specs.Words.{word_at, command_of};
+ghost use Rattle.std.specs.Prelude.{◌≡◌, ◌≤◌, ◌↔◌, IsTrue, length, map, string_bytes};
+ghost use Rattle.bpsec_command.specs.Words.{word_at, number_at, number_of, command_of};
+ghost use Rattle.bp_eid.specs.TextAnswer.{IsPadded, IsNumberOf};
 ghost use Rattle.bpsec_command.specs.Words as grammar;
 ghost use Rattle.bpsec_command.specs.Slots.{slot_of, told_by, read_as, or_line};
 
@@ -16,6 +17,12 @@ pub enum Command<'a> {
     Build { text: &'a str },
     /// `upgrade --policy NAME`: a policy as a text of version 2.
     Upgrade { policy: &'a str },
+    /// `secure --plan NAME --keys NAME`: the security blocks of a plan added to the bundle.
+    Secure { plan: &'a str, keys: &'a str },
+    /// `fragment --size N`: the bundle cut into fragments of so many bytes of payload.
+    Fragment { size: u64 },
+    /// `reassemble`: the fragments of the input joined.
+    Reassemble,
 }
 
 /// What stands at a place of a line.
@@ -25,6 +32,35 @@ pub(crate) enum Slot {
     Exactly(&'static str),
     /// The name of a file: 1 to 255 bytes.
     Name,
+    /// A decimal number of 64 bits, without leading zeros.
+    Number,
+}
+
+/// Whether a sign stands at the front, or a zero before more.
+fn is_padded(digits: &[u8]) -> bool
+    ensures { IsTrue result ↔ IsPadded digits.now }
+{
+    let [first, rest @ ..] = digits else {
+        return false;
+    };
+    *first == b'+' || (*first == b'0' && !rest.is_empty())
+}
+
+/// The number whose decimal digits these are, without leading zeros.
+fn parsed(digits: &str) -> Option<u64>
+    ensures { IsNumberOf digits.now result }
+{
+    if is_padded(digits.as_bytes()) {
+        return None;
+    }
+    digits.parse().ok()
+}
+
+/// The same as a value.
+fn number_of(digits: &str) -> Option<u64>
+    ensures { result ≡ number_of digits.now }
+{
+    parsed(digits)
 }
 
 /// Whether a word may stand there.
@@ -34,6 +70,7 @@ fn fits(slot: Slot, word: &str) -> bool
     match slot {
         Slot::Exactly(text) => text == word,
         Slot::Name => 1 <= word.len() && word.len() <= 255,
+        Slot::Number => number_of(word).is_some(),
     }
 }
 
@@ -74,7 +111,15 @@ fn word(words: &[String], place: usize) -> &str
     }
 }
 
+/// The number at a place of a line.
+fn number(words: &[String], place: usize) -> u64
+    ensures { result ≡ number_at place (map string_bytes words.now) }
+{
+    number_of(word(words, place)).unwrap_or(0)
+}
+
 /// What the lines before gave, else the command of this line, else the most words that one of them goes along with.
+#[tactic(auto, unfolding(crate::specs::Slots::or_line))]
 fn or_line<'a>(
     before: Result<Command<'a>, u64>,
     slots: &[Slot],
@@ -102,6 +147,13 @@ pub fn read_words(words: &[String]) -> Result<Command<'_>, u64>
     let upgrade = Command::Upgrade {
         policy: word(words, 2),
     };
+    let secure = Command::Secure {
+        plan: word(words, 2),
+        keys: word(words, 4),
+    };
+    let fragment = Command::Fragment {
+        size: number(words, 2),
+    };
     let read = or_line(Err(0), &[Slot::Exactly("check")], words, Command::Check);
     let read = or_line(read, &[Slot::Exactly("explain")], words, Command::Explain);
     let read = or_line(
@@ -110,7 +162,7 @@ pub fn read_words(words: &[String]) -> Result<Command<'_>, u64>
         words,
         build,
     );
-    or_line(
+    let read = or_line(
         read,
         &[
             Slot::Exactly("upgrade"),
@@ -119,5 +171,33 @@ pub fn read_words(words: &[String]) -> Result<Command<'_>, u64>
         ],
         words,
         upgrade,
+    );
+    let read = or_line(
+        read,
+        &[
+            Slot::Exactly("secure"),
+            Slot::Exactly("--plan"),
+            Slot::Name,
+            Slot::Exactly("--keys"),
+            Slot::Name,
+        ],
+        words,
+        secure,
+    );
+    let read = or_line(
+        read,
+        &[
+            Slot::Exactly("fragment"),
+            Slot::Exactly("--size"),
+            Slot::Number,
+        ],
+        words,
+        fragment,
+    );
+    or_line(
+        read,
+        &[Slot::Exactly("reassemble")],
+        words,
+        Command::Reassemble,
     )
 }

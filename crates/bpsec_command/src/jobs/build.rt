@@ -1,7 +1,7 @@
 //! `build`: the bundle of a text, and how many bytes and canonical blocks it has.
 
 ghost use Rattle.std.specs.Prelude.{◌≡◌, IfOk};
-ghost use Rattle.bpsec_command.specs.Answer.{built};
+ghost use Rattle.bpsec_command.specs.Done.{built};
 
 use crate::answer::Answer;
 use crate::jobs::TextJob;
@@ -10,6 +10,20 @@ use crate::status::Status;
 use bp_bundle::Bundle;
 use cbor_profile::{Bytes, NoMemory};
 use std::alloc::Global;
+
+/// The answer that is a bundle, and counts it.
+pub fn whole_bundle(alloc: Global, bundle: &Bundle) -> Result<Answer, NoMemory>
+    ensures { IfOk result (λ answer. answer ≡ built bundle.now) }
+{
+    let report = count_line(alloc, bundle)?;
+    let mut out = Bytes::new(alloc);
+    bundle.encode(&mut out)?;
+    Ok(Answer {
+        status: Status::Done,
+        out,
+        report,
+    })
+}
 
 /// The job of `build`.
 #[derive(Clone, Copy)]
@@ -21,13 +35,6 @@ impl TextJob for Build {
     ghost answer_to = { λ _ bundle. built bundle };
 
     fn answer(&self, alloc: Global, bundle: Bundle) -> Result<Answer, NoMemory> {
-        let report = count_line(alloc, &bundle)?;
-        let mut out = Bytes::new(alloc);
-        bundle.encode(&mut out)?;
-        Ok(Answer {
-            status: Status::Done,
-            out,
-            report,
-        })
+        whole_bundle(alloc, &bundle)
     }
 }

@@ -2,7 +2,8 @@
 
 ghost use Rattle.std.specs.Prelude.{◌≡◌, length, IfOk};
 ghost use Rattle.bp_bundle.specs.Spelling.{spelling};
-ghost use Rattle.bpsec_command.specs.Answer.{checked, ok_line};
+ghost use Rattle.bpsec_command.specs.Refusals.{ok_line};
+ghost use Rattle.bpsec_command.specs.Done.{checked};
 
 use crate::answer::Answer;
 use crate::jobs::BundleJob;

@@ -1,7 +1,7 @@
 //! `explain`: the bundle in lines.
 
 ghost use Rattle.std.specs.Prelude.{◌≡◌, IfOk};
-ghost use Rattle.bpsec_command.specs.Answer.{explained};
+ghost use Rattle.bpsec_command.specs.Done.{explained};
 
 use crate::answer::Answer;
 use crate::jobs::BundleJob;

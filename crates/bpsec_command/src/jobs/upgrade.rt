@@ -1,7 +1,7 @@
 //! `upgrade`: a policy as a text of version 2.
 
 ghost use Rattle.std.specs.Prelude.{◌≡◌, IfOk};
-ghost use Rattle.bpsec_command.specs.Answer.{upgraded};
+ghost use Rattle.bpsec_command.specs.Done.{upgraded};
 
 use crate::answer::Answer;
 use crate::jobs::TextJob;

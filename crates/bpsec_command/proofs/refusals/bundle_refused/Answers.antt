@@ -5,7 +5,7 @@ use Rattle.cbor_profile.specs.declared.fault.Fault.{Fault}
 use Rattle.bpsec_command.specs.declared.answer.Answer.{Answer}
 use Rattle.bpsec_command.specs.declared.status.Status.TheVariants.{BundleRefused}
 use Rattle.bpsec_command.specs.declared.status.Refused.TheVariants as refused
-use Rattle.bpsec_command.specs.Answer.{bundle_refused, refused_line}
+use Rattle.bpsec_command.specs.Refusals.{bundle_refused, refused_line}
 use Rattle.bpsec_command.specs.Reasons.{reason_name}
 use Rattle.bpsec_command.proofs.refusals.bundle_refused.Goals as goal
 
