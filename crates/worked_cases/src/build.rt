@@ -1,8 +1,9 @@
 //! `build`.
 
 use crate::inputs::{CHECKED, PLAIN as PLAIN_BUNDLE};
-use crate::runs::{Given, Made, NOTHING, run_on};
-use crate::texts::{PLAIN, builds};
+use crate::rows::{Row, fields_of};
+use crate::runs::{Given, Made, over_file, run_on, text_file};
+use crate::texts::{BUILDS, PLAIN};
 use bpsec_command::Status;
 use std::alloc::Global;
 use std::process::Abort;
@@ -18,33 +19,42 @@ pub fn with(alloc: Global, text: &str, old: &str, new: &str) -> Result<String, F
 
 /// Runs `build` on a text, over an input that isn't to be read.
 fn build(alloc: Global, text: &str) -> Result<Made, Fail> {
-    Ok(run_on(
-        alloc,
-        &Given {
-            words: BUILD,
-            input: b"\x80",
-            files: &[("b.json", text.as_bytes())],
-            failing_reads: &[0],
-            ..NOTHING
-        },
-    )?)
+    let plain = over_file(BUILD, text_file("b.json", text), b"\x80");
+    let unread = Given {
+        failing_reads: &[0],
+        ..plain
+    };
+    Ok(run_on(alloc, &unread)?)
+}
+
+/// What a text gives: its line in the report and, of the plain bundle, its bytes.
+fn expect_line(rt: &(impl Abort + AllocGlobal), case: Row) -> Result<(), Fail> {
+    let alloc = rt.alloc();
+    let name = case.name;
+    let made = build(alloc, with(alloc, PLAIN, case.old, case.new)?.as_str())?;
+    let (code, out) = if case.line.starts_with("ok") {
+        (0, PLAIN_BUNDLE.as_slice())
+    } else {
+        (6, b"".as_slice())
+    };
+    assert_eq!(rt; made.status.code(), code, "{name}");
+    let line = format!(in alloc; "{}\n", case.line)?;
+    assert_eq!(rt; made.report.as_slice(), line.as_bytes(), "{name}");
+    assert_eq!(rt; made.out.as_slice(), out, "{name}");
+    Ok(())
 }
 
 #[test]
 fn texts_are_built_or_refused(rt: HostRuntime) -> Result<(), Fail> {
-    let alloc = rt.alloc();
-    for case in &builds() {
-        let (name, old, new, line) = *case;
-        let made = build(alloc, with(alloc, PLAIN, old, new)?.as_str())?;
-        let (code, out) = if line.starts_with(b"ok") {
-            (0, PLAIN_BUNDLE.as_slice())
-        } else {
-            (6, b"".as_slice())
-        };
-        assert_eq!(rt; made.status.code(), code, "{name}");
-        assert_eq!(rt; made.report.as_slice(), line, "{name}");
-        assert_eq!(rt; made.out.as_slice(), out, "{name}");
+    for line in BUILDS.lines() {
+        expect_line(&rt, fields_of(line)?)?;
     }
+    let marked = with(rt.alloc(), PLAIN, "{", "\u{feff}{")?;
+    let made = build(rt.alloc(), marked.as_str())?;
+    assert_eq!(rt;
+        made.report.as_slice(),
+        b"refused text entry=- reason=NotJson\n".as_slice()
+    );
     Ok(())
 }
 
@@ -120,7 +130,8 @@ fn a_text_has_64_blocks_at_most(rt: HostRuntime) -> Result<(), Fail> {
         most.report.as_slice(),
         b"ok bytes=554 blocks=64\n".as_slice()
     );
-    let more = build(alloc, many(alloc, 64)?.as_str())?;
+    let more = with(alloc, many(alloc, 64)?.as_str(), "ipn:1.2", "ipn:1")?;
+    let more = build(alloc, more.as_str())?;
     assert_eq!(rt;
         more.report.as_slice(),
         b"refused text entry=- reason=TooMany\n".as_slice()

@@ -1,7 +1,7 @@
 //! `check`.
 
 use crate::inputs::{CHECKED, Input, PLAIN, bundles, first_faults};
-use crate::runs::{Given, NOTHING, run_on};
+use crate::runs::{Given, over_input, run_on};
 use bpsec_command::{Reading, Status, Writing};
 use std::process::Abort;
 use std::test::Fail;
@@ -14,19 +14,10 @@ const FRONT: &[u8] =
 
 const BACK: &[u8] = b"D?\xde\xf2y\xff";
 
-fn given<'a>(words: &'a [&'a str], input: &'a [u8], most: usize) -> Given<'a> {
-    Given {
-        words,
-        input,
-        most,
-        ..NOTHING
-    }
-}
-
 /// Runs `check` on the input in pieces of at most so many bytes.
 fn expect_line(rt: &(impl Abort + AllocGlobal), case: &Input, most: usize) -> Result<(), Fail> {
     let (name, input, line) = *case;
-    let made = run_on(rt.alloc(), &given(CHECK, input, most))?;
+    let made = run_on(rt.alloc(), &over_input(CHECK, input, most))?;
     let (code, out, report) = if line.starts_with(b"ok") {
         (0, line, b"".as_slice())
     } else {
@@ -60,7 +51,7 @@ fn others_are_refused_at_their_first_fault(rt: HostRuntime) -> Result<(), Fail> 
 fn each_proper_prefix_is_truncated_at_its_length(rt: HostRuntime) -> Result<(), Fail> {
     let alloc = rt.alloc();
     for n in 0..CHECKED.len() {
-        let made = run_on(alloc, &given(CHECK, &CHECKED[..n], 7))?;
+        let made = run_on(alloc, &over_input(CHECK, &CHECKED[..n], 7))?;
         let line = format!(in alloc; "refused bundle place={n} reason=Truncated\n")?;
         assert_eq!(rt; made.status.code(), 3);
         assert_eq!(rt; made.report.as_slice(), line.as_bytes());
@@ -76,7 +67,7 @@ fn a_large_payload_is_counted(rt: HostRuntime) -> Result<(), Fail> {
     input.extend_from_slice(&[7; 100_000])?;
     input.extend_from_slice(b"\xff")?;
     for most in [1, 4096, 1_000_000] {
-        let made = run_on(alloc, &given(CHECK, input.as_slice(), most))?;
+        let made = run_on(alloc, &over_input(CHECK, input.as_slice(), most))?;
         assert_eq!(rt; made.status, Status::Done);
         assert_eq!(rt;
             made.out.as_slice(),
@@ -95,7 +86,7 @@ fn an_ordinary_bundle_is_counted(rt: HostRuntime) -> Result<(), Fail> {
         input.extend_from_slice(&[7; 100_000])?;
     }
     input.extend_from_slice(BACK)?;
-    let made = run_on(alloc, &given(CHECK, input.as_slice(), 1_000_000))?;
+    let made = run_on(alloc, &over_input(CHECK, input.as_slice(), 1_000_000))?;
     assert_eq!(rt; made.status, Status::Done);
     assert_eq!(rt;
         made.out.as_slice(),
@@ -115,7 +106,7 @@ fn the_largest_bundle_is_counted(rt: HostRuntime) -> Result<(), Fail> {
     }
     input.extend_from_slice(&[7; 77_176])?;
     input.extend_from_slice(b"\xff")?;
-    let made = run_on(alloc, &given(CHECK, input.as_slice(), 1_000_000))?;
+    let made = run_on(alloc, &over_input(CHECK, input.as_slice(), 1_000_000))?;
     assert_eq!(rt; made.status, Status::Done);
     assert_eq!(rt;
         made.out.as_slice(),
@@ -140,7 +131,7 @@ fn words_that_are_no_line(rt: HostRuntime) -> Result<(), Fail> {
         (&[long.as_str()], 0, b"usage word=0\n"),
     ];
     for (words, word, report) in &cases {
-        let made = run_on(rt.alloc(), &given(words, PLAIN, 4096))?;
+        let made = run_on(rt.alloc(), &over_input(words, PLAIN, 4096))?;
         assert_eq!(rt; made.status, Status::Usage { word: *word });
         assert_eq!(rt; made.status.code(), 2);
         assert_eq!(rt; made.out.as_slice(), b"".as_slice());
@@ -160,7 +151,7 @@ fn expect(rt: &impl Abort, made: crate::runs::Made, want: (Status, &[u8], &[u8])
 fn each_read_may_fail(rt: HostRuntime) -> Result<(), Fail> {
     // Five reads of 16 bytes at most, and one that finds the end.
     for k in 0..8 {
-        let plain = given(CHECK, PLAIN, 16);
+        let plain = over_input(CHECK, PLAIN, 16);
         let made = run_on(
             rt.alloc(),
             &Given {
@@ -185,7 +176,7 @@ fn each_read_may_fail(rt: HostRuntime) -> Result<(), Fail> {
 
 #[test]
 fn each_write_may_fail(rt: HostRuntime) -> Result<(), Fail> {
-    let plain = given(CHECK, PLAIN, 16);
+    let plain = over_input(CHECK, PLAIN, 16);
     let made = run_on(
         rt.alloc(),
         &Given {
@@ -203,7 +194,7 @@ fn each_write_may_fail(rt: HostRuntime) -> Result<(), Fail> {
         },
     )?;
     expect(&rt, made, (Status::Done, b"ok bytes=72 blocks=1\n", b""));
-    let refused = given(CHECK, b"\x80", 16);
+    let refused = over_input(CHECK, b"\x80", 16);
     let made = run_on(
         rt.alloc(),
         &Given {

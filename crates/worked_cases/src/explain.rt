@@ -1,20 +1,11 @@
 //! `explain`.
 
 use crate::inputs::{Input, first_faults};
-use crate::runs::{Given, NOTHING, run_on};
+use crate::runs::{over_input, run_on};
 use bpsec_command::Status;
 use std::test::Fail;
 
 const EXPLAIN: &[&str; 1] = &["explain"];
-
-fn given<'a>(input: &'a [u8], most: usize) -> Given<'a> {
-    Given {
-        words: EXPLAIN,
-        input,
-        most,
-        ..NOTHING
-    }
-}
 
 /// A name, a bundle, and its lines.
 fn explained() -> [Input; 6] {
@@ -57,7 +48,7 @@ fn bundles_are_explained(rt: HostRuntime) -> Result<(), Fail> {
     for case in &explained() {
         let (name, input, lines) = *case;
         for most in [4096, 1] {
-            let made = run_on(rt.alloc(), &given(input, most))?;
+            let made = run_on(rt.alloc(), &over_input(EXPLAIN, input, most))?;
             assert_eq!(rt; made.status, Status::Done, "{name}");
             assert_eq!(rt; made.out.as_slice(), lines, "{name}");
             assert_eq!(rt; made.report.as_slice(), b"".as_slice(), "{name}");
@@ -70,7 +61,7 @@ fn bundles_are_explained(rt: HostRuntime) -> Result<(), Fail> {
 fn others_have_no_lines(rt: HostRuntime) -> Result<(), Fail> {
     for case in &first_faults() {
         let (name, input, line) = *case;
-        let made = run_on(rt.alloc(), &given(input, 7))?;
+        let made = run_on(rt.alloc(), &over_input(EXPLAIN, input, 7))?;
         assert_eq!(rt; made.status.code(), 3, "{name}");
         assert_eq!(rt; made.out.as_slice(), b"".as_slice(), "{name}");
         assert_eq!(rt; made.report.as_slice(), line, "{name}");

@@ -6,13 +6,27 @@ mod build;
 #[cfg(test)]
 mod check;
 #[cfg(test)]
+mod cuts;
+#[cfg(test)]
 mod explain;
+#[cfg(test)]
+mod fragment;
 #[cfg(test)]
 mod inputs;
 #[cfg(test)]
+mod plan_refusals;
+#[cfg(test)]
 mod policies;
 #[cfg(test)]
+mod rings;
+#[cfg(test)]
+mod rows;
+#[cfg(test)]
 mod runs;
+#[cfg(test)]
+mod secure;
+#[cfg(test)]
+mod secured;
 #[cfg(test)]
 mod shelf;
 #[cfg(test)]

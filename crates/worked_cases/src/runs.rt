@@ -5,6 +5,26 @@ use bpsec_command::{Status, run};
 use cbor_profile::{Bytes, List, NoMemory};
 use std::alloc::Global;
 
+/// A file of the shelf. One without a name isn't there.
+#[derive(Clone, Copy)]
+pub struct File<'a> {
+    pub name: &'a str,
+    pub bytes: &'a [u8],
+}
+
+const NO_FILE: File = File {
+    name: "",
+    bytes: b"",
+};
+
+/// A file of a text.
+pub fn text_file<'a>(name: &'a str, text: &'a str) -> File<'a> {
+    File {
+        name,
+        bytes: text.as_bytes(),
+    }
+}
+
 /// What a run is given, and which calls of its devices fail.
 #[derive(Clone, Copy)]
 pub struct Given<'a> {
@@ -12,12 +32,55 @@ pub struct Given<'a> {
     pub input: &'a [u8],
     /// The most bytes that a read gives.
     pub most: usize,
-    /// The files of the shelf: names and contents.
-    pub files: &'a [(&'a str, &'a [u8])],
+    pub first: File<'a>,
+    pub second: File<'a>,
     pub failing_fetches: &'a [u64],
     pub failing_reads: &'a [u64],
     pub failing_writes: &'a [u64],
     pub failing_report_writes: &'a [u64],
+}
+
+/// Words and an input in pieces of at most so many bytes. There are no files, and nothing fails.
+pub fn over_input<'a>(words: &'a [&'a str], input: &'a [u8], most: usize) -> Given<'a> {
+    Given {
+        words,
+        input,
+        most,
+        first: NO_FILE,
+        second: NO_FILE,
+        failing_fetches: &[],
+        failing_reads: &[],
+        failing_writes: &[],
+        failing_report_writes: &[],
+    }
+}
+
+/// Words, a file and an input. Nothing fails.
+pub fn over_file<'a>(words: &'a [&'a str], first: File<'a>, input: &'a [u8]) -> Given<'a> {
+    Given {
+        words,
+        input,
+        most: 4096,
+        first,
+        second: NO_FILE,
+        failing_fetches: &[],
+        failing_reads: &[],
+        failing_writes: &[],
+        failing_report_writes: &[],
+    }
+}
+
+/// Words, two files and an input. Nothing fails.
+pub fn over_files<'a>(
+    words: &'a [&'a str],
+    first: File<'a>,
+    second: File<'a>,
+    input: &'a [u8],
+) -> Given<'a> {
+    Given {
+        second,
+        ..over_file(words, first, input)
+    }
 }
 
 /// What a run made.
@@ -44,47 +107,48 @@ fn numbers(alloc: Global, numbers: &[u64]) -> Result<List<u64>, NoMemory> {
     Ok(List::of(Vec::from_slice(alloc, numbers)?))
 }
 
-fn files_of(alloc: Global, files: &[(&str, &[u8])]) -> Result<List<NamedFile>, NoMemory> {
-    let mut held = Vec::new(alloc);
-    for (name, bytes) in files {
-        held.push(NamedFile {
-            name: bytes_of(alloc, name.as_bytes())?,
-            bytes: bytes_of(alloc, bytes)?,
-        })?;
+/// Puts a file on the shelf.
+fn put_file(alloc: Global, file: File, files: &mut Vec<NamedFile>) -> Result<(), NoMemory> {
+    if file.name.is_empty() {
+        return Ok(());
     }
-    Ok(List::of(held))
+    files.push(NamedFile {
+        name: bytes_of(alloc, file.name.as_bytes())?,
+        bytes: bytes_of(alloc, file.bytes)?,
+    })?;
+    Ok(())
 }
-
-/// Nothing: no words, no files, no input.
-pub const NOTHING: Given = Given {
-    words: &[],
-    input: b"",
-    most: 4096,
-    files: &[],
-    failing_fetches: &[],
-    failing_reads: &[],
-    failing_writes: &[],
-    failing_report_writes: &[],
-};
 
 /// How many bytes a sink has room for.
 const ROOM: usize = 65_536;
 
-/// Runs the program. `most` of 0 is taken as 1.
+/// The shelf, with the files that have names.
+fn shelf_of(alloc: Global, given: &Given) -> Result<MemoryShelf, NoMemory> {
+    let mut files = Vec::new(alloc);
+    put_file(alloc, given.first, &mut files)?;
+    put_file(alloc, given.second, &mut files)?;
+    let failing = numbers(alloc, given.failing_fetches)?;
+    Ok(MemoryShelf::new(alloc, List::of(files), failing))
+}
+
+/// The input. `most` of 0 is taken as 1.
+fn source_of(alloc: Global, given: &Given) -> Result<MemorySource, NoMemory> {
+    let input = bytes_of(alloc, given.input)?;
+    let failing = numbers(alloc, given.failing_reads)?;
+    Ok(MemorySource::new(input, given.most.max(1), failing))
+}
+
+fn sink_of(alloc: Global, failing: &[u64]) -> Result<MemorySink, NoMemory> {
+    Ok(MemorySink::new(alloc, ROOM, numbers(alloc, failing)?)?)
+}
+
+/// Runs the program.
 pub fn run_on(alloc: Global, given: &Given) -> Result<Made, NoMemory> {
     let words = words_of(alloc, given.words)?;
-    let mut input = MemorySource::new(
-        bytes_of(alloc, given.input)?,
-        given.most.max(1),
-        numbers(alloc, given.failing_reads)?,
-    );
-    let mut shelf = MemoryShelf::new(
-        alloc,
-        files_of(alloc, given.files)?,
-        numbers(alloc, given.failing_fetches)?,
-    );
-    let mut out = MemorySink::new(alloc, ROOM, numbers(alloc, given.failing_writes)?)?;
-    let mut report = MemorySink::new(alloc, ROOM, numbers(alloc, given.failing_report_writes)?)?;
+    let mut input = source_of(alloc, given)?;
+    let mut shelf = shelf_of(alloc, given)?;
+    let mut out = sink_of(alloc, given.failing_writes)?;
+    let mut report = sink_of(alloc, given.failing_report_writes)?;
     let status = run(
         alloc,
         words.as_slice(),

@@ -2,29 +2,22 @@
 
 use crate::inputs::PLAIN as PLAIN_BUNDLE;
 use crate::policies::FIRST;
-use crate::runs::{Given, NOTHING, run_on};
+use crate::runs::{Given, Made, over_file, over_files, over_input, run_on, text_file};
 use crate::texts::PLAIN;
 use bpsec_command::{Reading, Status, Writing};
+use std::alloc::Global;
 use std::test::Fail;
 
 const BUILD: &[&str; 3] = &["build", "--text", "b.json"];
 
+const UPGRADE: &[&str; 3] = &["upgrade", "--policy", "b.json"];
+
 #[test]
 fn a_name_that_is_not_held_is_a_fault(rt: HostRuntime) -> Result<(), Fail> {
-    for (words, files) in [
-        (BUILD, &[("c.json", PLAIN.as_bytes())]),
-        (
-            &["upgrade", "--policy", "b.json"],
-            &[("c.json", FIRST.as_bytes())],
-        ),
-    ] {
+    for (words, text) in [(BUILD, PLAIN), (UPGRADE, FIRST)] {
         let made = run_on(
             rt.alloc(),
-            &Given {
-                words,
-                files,
-                ..NOTHING
-            },
+            &over_file(words, text_file("c.json", text), b""),
         )?;
         assert_eq!(rt; made.status, Status::ReadFault(Reading::Shelf));
         assert_eq!(rt; made.status.code(), 7);
@@ -34,49 +27,37 @@ fn a_name_that_is_not_held_is_a_fault(rt: HostRuntime) -> Result<(), Fail> {
     Ok(())
 }
 
-#[test]
-fn the_fetch_may_fail(rt: HostRuntime) -> Result<(), Fail> {
-    for (failing, status) in [(0, Status::ReadFault(Reading::Shelf)), (1, Status::Done)] {
-        let made = run_on(
-            rt.alloc(),
-            &Given {
-                words: BUILD,
-                files: &[("b.json", PLAIN.as_bytes())],
-                failing_fetches: &[failing],
-                ..NOTHING
-            },
-        )?;
-        assert_eq!(rt; made.status, status);
-    }
-    Ok(())
+/// Builds the plain bundle, where the fetch, the write and the write of the report of these numbers fail.
+fn build_failing(alloc: Global, fetch: u64, out: u64, report: u64) -> Result<Made, Fail> {
+    let plain = over_file(BUILD, text_file("b.json", PLAIN), b"");
+    let failing = Given {
+        failing_fetches: &[fetch],
+        failing_writes: &[out],
+        failing_report_writes: &[report],
+        ..plain
+    };
+    Ok(run_on(alloc, &failing)?)
 }
 
 #[test]
-fn each_write_may_fail(rt: HostRuntime) -> Result<(), Fail> {
-    for (out, report, status, written) in [
-        (0, 9, Status::WriteFault(Writing::Out), b"".as_slice()),
-        (
-            9,
-            0,
-            Status::WriteFault(Writing::Report),
-            PLAIN_BUNDLE.as_slice(),
-        ),
-        (9, 9, Status::Done, PLAIN_BUNDLE.as_slice()),
+fn each_device_may_fail(rt: HostRuntime) -> Result<(), Fail> {
+    let (none, whole) = (b"".as_slice(), PLAIN_BUNDLE.as_slice());
+    for (fetch, out, report, status, written) in [
+        (0, 9, 9, Status::ReadFault(Reading::Shelf), none),
+        (0, 9, 0, Status::WriteFault(Writing::Report), none),
+        (1, 0, 9, Status::WriteFault(Writing::Out), none),
+        (1, 9, 0, Status::WriteFault(Writing::Report), whole),
+        (1, 1, 1, Status::Done, whole),
     ] {
-        let made = run_on(
-            rt.alloc(),
-            &Given {
-                words: BUILD,
-                files: &[("b.json", PLAIN.as_bytes())],
-                failing_writes: &[out],
-                failing_report_writes: &[report],
-                ..NOTHING
-            },
-        )?;
+        let made = build_failing(rt.alloc(), fetch, out, report)?;
         assert_eq!(rt; made.status, status);
         assert_eq!(rt; made.out.as_slice(), written);
     }
     Ok(())
+}
+
+fn run_words(alloc: Global, words: &[&str]) -> Result<Made, Fail> {
+    Ok(run_on(alloc, &over_input(words, PLAIN_BUNDLE, 4096))?)
 }
 
 #[test]
@@ -98,17 +79,19 @@ fn words_that_are_no_line(rt: HostRuntime) -> Result<(), Fail> {
         (&["--text", "build"], 0),
     ];
     for (words, word) in &cases {
-        let made = run_on(
-            alloc,
-            &Given {
-                words,
-                files: &[("b.json", PLAIN.as_bytes())],
-                ..NOTHING
-            },
-        )?;
+        let made = run_words(alloc, words)?;
         assert_eq!(rt; made.status, Status::Usage { word: *word });
     }
     Ok(())
+}
+
+/// Builds the plain bundle from a file of this name, the first of two.
+fn build_named(alloc: Global, name: &str) -> Result<Made, Fail> {
+    let words = ["build", "--text", name];
+    Ok(run_on(
+        alloc,
+        &over_files(&words, text_file(name, PLAIN), text_file(name, "["), b""),
+    )?)
 }
 
 /// Any word of 1 to 255 bytes is a name, also one that begins as an option does.
@@ -119,16 +102,7 @@ fn any_word_is_a_name(rt: HostRuntime) -> Result<(), Fail> {
     let Ok(long) = long else {
         return Ok(());
     };
-    for name in ["--text", long.as_str()] {
-        let made = run_on(
-            alloc,
-            &Given {
-                words: &["build", "--text", name],
-                files: &[(name, PLAIN.as_bytes()), (name, b"[")],
-                ..NOTHING
-            },
-        )?;
-        assert_eq!(rt; made.status, Status::Done);
-    }
+    assert_eq!(rt; build_named(alloc, "--text")?.status, Status::Done);
+    assert_eq!(rt; build_named(alloc, long.as_str())?.status, Status::Done);
     Ok(())
 }

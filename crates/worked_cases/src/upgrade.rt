@@ -1,9 +1,9 @@
 //! `upgrade`.
 
 use crate::build::with;
-use crate::policies::{FIRST, SECOND, kept, refusals, second_refusals, upgraded};
-use crate::runs::{Given, Made, NOTHING, run_on};
-use crate::texts::Text;
+use crate::policies::{FIRST, KEPT, REFUSALS, SECOND, SECOND_REFUSALS, UPGRADED};
+use crate::rows::{Row, fields_of};
+use crate::runs::{Given, Made, over_file, run_on, text_file};
 use bpsec_command::Status;
 use std::alloc::Global;
 use std::process::Abort;
@@ -13,35 +13,33 @@ const UPGRADE: &[&str; 3] = &["upgrade", "--policy", "p.json"];
 
 /// Runs `upgrade` on a policy, over an input that isn't to be read.
 fn upgrade(alloc: Global, policy: &str) -> Result<Made, Fail> {
-    Ok(run_on(
-        alloc,
-        &Given {
-            words: UPGRADE,
-            input: b"\x80",
-            files: &[("p.json", policy.as_bytes())],
-            failing_reads: &[0],
-            ..NOTHING
-        },
-    )?)
+    let plain = over_file(UPGRADE, text_file("p.json", policy), b"\x80");
+    let unread = Given {
+        failing_reads: &[0],
+        ..plain
+    };
+    Ok(run_on(alloc, &unread)?)
 }
 
 /// The policy with a piece in place of another is refused.
-fn expect_refusal(rt: &(impl Abort + AllocGlobal), policy: &str, case: &Text) -> Result<(), Fail> {
-    let (name, old, new, line) = *case;
-    let made = upgrade(rt.alloc(), with(rt.alloc(), policy, old, new)?.as_str())?;
+fn expect_refusal(rt: &(impl Abort + AllocGlobal), policy: &str, case: Row) -> Result<(), Fail> {
+    let alloc = rt.alloc();
+    let name = case.name;
+    let made = upgrade(alloc, with(alloc, policy, case.old, case.new)?.as_str())?;
+    let line = format!(in alloc; "{}\n", case.line)?;
     assert_eq!(rt; made.status.code(), 4, "{name}");
-    assert_eq!(rt; made.report.as_slice(), line, "{name}");
+    assert_eq!(rt; made.report.as_slice(), line.as_bytes(), "{name}");
     assert_eq!(rt; made.out.as_slice(), b"".as_slice(), "{name}");
     Ok(())
 }
 
 #[test]
 fn policies_are_refused(rt: HostRuntime) -> Result<(), Fail> {
-    for case in &refusals() {
-        expect_refusal(&rt, FIRST, case)?;
+    for line in REFUSALS.lines() {
+        expect_refusal(&rt, FIRST, fields_of(line)?)?;
     }
-    for case in &second_refusals() {
-        expect_refusal(&rt, SECOND, case)?;
+    for line in SECOND_REFUSALS.lines() {
+        expect_refusal(&rt, SECOND, fields_of(line)?)?;
     }
     Ok(())
 }
@@ -57,21 +55,24 @@ fn expect_text(rt: &(impl Abort + AllocGlobal), policy: &str, text: &[u8]) -> Re
     Ok(())
 }
 
+/// The policy with a piece in place of another gives this text.
+fn expect_row(rt: &(impl Abort + AllocGlobal), policy: &str, case: Row) -> Result<(), Fail> {
+    let text = with(rt.alloc(), policy, case.old, case.new)?;
+    expect_text(rt, text.as_str(), case.line.as_bytes())
+}
+
 #[test]
 fn policies_are_written(rt: HostRuntime) -> Result<(), Fail> {
-    let alloc = rt.alloc();
     expect_text(
         &rt,
         FIRST,
         br#"{"broken":"keep","default":{"failed":"keep","misset":"keep","role":"none"},"node":"ipn:9.1","required":[],"rules":[{"failed":"keep","key":"k1","misset":"keep","name":"rb","role":"acceptor","service":"bib"},{"failed":"keep","key":"cek","misset":"keep","name":"rc","role":"acceptor","service":"bcb"}],"version":2}"#,
     )?;
-    for case in &upgraded() {
-        let (_, old, new, text) = *case;
-        expect_text(&rt, with(alloc, FIRST, old, new)?.as_str(), text)?;
+    for line in UPGRADED.lines() {
+        expect_row(&rt, FIRST, fields_of(line)?)?;
     }
-    for case in &kept() {
-        let (_, old, new, text) = *case;
-        expect_text(&rt, with(alloc, SECOND, old, new)?.as_str(), text)?;
+    for line in KEPT.lines() {
+        expect_row(&rt, SECOND, fields_of(line)?)?;
     }
     Ok(())
 }
