@@ -1,0 +1,8 @@
+use Rattle.bpsec_node.proofs.Known.{cover_means, cover_none}
+use Rattle.bpsec_node.proofs.laws.covers_are_found.Goals as goal
+
+pub returns-clause-means : goal.returns-clause-means
+returns-clause-means c = λ blocks number op small is. cover_means blocks number op small is
+
+pub returns-clause-found : goal.returns-clause-found
+returns-clause-found c = λ bundle number is none. cover_none bundle.blocks number is.distinct none

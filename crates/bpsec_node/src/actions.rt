@@ -1,0 +1,155 @@
+//! Actions, and what a requirement applies to.
+
+ghost use Rattle.std.specs.Prelude.{◌≡◌, ◌==◌, ◌&&◌, ◌++◌, ◌∷◌, [], map, filter, fold, is_some, IfOk, OnOk};
+ghost use Rattle.std.specs.Option.{option_copied};
+ghost use Rattle.std.specs.List.{flat_map};
+ghost use Rattle.std.specs.BTreeSet.{insert_key};
+ghost use Rattle.bpsec_asb.specs.declared.operation.Service.TheVariants.{Bib, Bcb};
+ghost use Rattle.bpsec_policy.specs.Rules.{same_id, same_kind, same_service, allows};
+ghost use Rattle.bpsec_node.specs.Site.{block_at};
+ghost use Rattle.bpsec_node.specs.Plain.{is_acceptor};
+ghost use Rattle.bpsec_node.specs.Events.{join, least_action, is_floored, is_no_target, with_floor, action_by, applies, has_operation, place_cmp, place_of, op_at, reason_by, name_by, missing_by};
+ghost use Rattle.bpsec_node.specs.Finished.{requirement_in, is_missing_in, fault_of, fault_at_in, broken_place, missing_place, places_in, action_in, operation_event_in, broken_event_in, missing_event_in, event_in, events_in};
+ghost use Rattle.bpsec_node.specs.Seen.{seen};
+
+use crate::event::{Event, Verdict};
+use crate::kept::{Kept, same_service};
+use crate::lists::{find_held, has, is_among};
+use crate::site::find_block;
+use crate::place::Place;
+use bp_blocks::Block;
+use bp_eid::Eid;
+use bpsec_asb::{OpId, Service};
+use bpsec_context::MissetReason;
+use bpsec_policy::{Action, Requirement, Role, Rule, TargetKind};
+use cbor_profile::{Bytes, Fault, List, NoMemory, Reason};
+use std::alloc::Global;
+use std::collections::BTreeSet;
+
+/// The greater of two actions.
+pub(crate) fn join(one: Action, other: Action) -> Action
+    ensures { result ≡ join one other }
+{
+    match (one, other) {
+        (Action::Keep, other) => other,
+        (Action::Remove, Action::Discard) | (Action::Discard, _) => Action::Discard,
+        (Action::Remove, _) => Action::Remove,
+    }
+}
+
+pub(crate) fn least_action(target: u64) -> Action
+    ensures { result ≡ least_action target }
+{
+    if target == 1 {
+        Action::Discard
+    } else {
+        Action::Remove
+    }
+}
+
+pub(crate) fn is_acceptor(role: Role) -> bool
+    ensures { result ≡ is_acceptor role }
+{
+    match role {
+        Role::Acceptor => true,
+        Role::Verifier | Role::None => false,
+    }
+}
+
+pub(crate) fn is_floored(role: Role, service: Service) -> bool
+    ensures { result ≡ is_floored role service }
+{
+    match service {
+        Service::Bib => false,
+        Service::Bcb => is_acceptor(role),
+    }
+}
+
+pub(crate) fn is_no_target(reason: MissetReason) -> bool
+    ensures { result ≡ is_no_target reason }
+{
+    match reason {
+        MissetReason::NoTarget | MissetReason::TargetForbidden => true,
+        _ => false,
+    }
+}
+
+pub(crate) fn with_floor(floored: bool, target: u64, action: Action) -> Action
+    ensures { result ≡ with_floor floored target action }
+{
+    if floored {
+        join(least_action(target), action)
+    } else {
+        action
+    }
+}
+
+/// The action of a verdict, under a rule.
+pub(crate) fn action_by(rule: &Rule, floored: bool, target: u64, verdict: Verdict) -> Action
+    ensures { result ≡ action_by rule.now floored target verdict }
+{
+    match verdict {
+        Verdict::Failed => with_floor(floored, target, rule.failed),
+        Verdict::Misset(reason) if is_no_target(reason) => rule.misset,
+        Verdict::Misset(_) => with_floor(floored, target, rule.misset),
+        Verdict::Conflict => rule.misset,
+        _ => Action::Keep,
+    }
+}
+
+// ---- requirements
+
+pub(crate) fn same_kind(one: TargetKind, other: TargetKind) -> bool
+    ensures { result ≡ same_kind one other }
+{
+    match (one, other) {
+        (TargetKind::Primary, TargetKind::Primary) => true,
+        (TargetKind::Kind(one), TargetKind::Kind(other)) => one == other,
+        _ => false,
+    }
+}
+
+pub(crate) fn same_id(one: &Eid, other: &Eid) -> bool
+    ensures { result ≡ same_id one.now other.now }
+{
+    match (one, other) {
+        (Eid::Null, Eid::Null) => true,
+        (Eid::Dtn(text), Eid::Dtn(other)) => text.bytes() == other.bytes(),
+        (
+            Eid::Ipn { node, service },
+            Eid::Ipn {
+                node: other_node,
+                service: other_service,
+            },
+        ) => node == other_node && service == other_service,
+        _ => false,
+    }
+}
+
+pub(crate) fn allows(from: &Option<Eid>, source: &Eid) -> bool
+    ensures { result ≡ allows from.now (same_id source.now) }
+{
+    match from {
+        Some(from) => same_id(source, from),
+        None => true,
+    }
+}
+
+/// Whether the requirement is for such a block, service and source.
+pub(crate) fn applies(
+    kind: Option<TargetKind>,
+    service: Service,
+    source: &Eid,
+    requirement: &Requirement,
+) -> bool
+    ensures { result ≡ applies kind service source.now requirement.now }
+{
+    match kind {
+        Some(kind) => {
+            same_kind(requirement.target, kind)
+                && same_service(requirement.service, service)
+                && allows(&requirement.from, source)
+        }
+        None => false,
+    }
+}
