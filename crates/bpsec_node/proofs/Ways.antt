@@ -39,7 +39,6 @@ unfolding end_of outcome
 end_parts s done verdicts is = ap (λ (v : List Verdict). record { outcome = outcome s; done = done; verdicts = v }) is
 
 module _ {C : Type 0} (answer : C → ℕ → ℕ) (next : C → ℕ → C) (suite : Meaning) (ring : List NamedKey) (before : Progress) (chooser : C) where
-
   abbrev r : Situation
   r = ringed suite before ring
 
@@ -58,10 +57,17 @@ module _ {C : Type 0} (answer : C → ℕ → ℕ) (next : C → ℕ → C) (sui
 
   pub way_start : length before.keys ≡ length before.done → length before.done ≤ 4096 → IsBundle before.received → Legal (situation suite before) before.done → OnTheWay before chooser
   way_start keyed few shape legal = record {
-    more = []; received = refl; policy = refl;
-    done = sym (append-nil before.done); keys = sym (append-nil before.keys);
+    more = [];
+    received = refl;
+    policy = refl;
+    done = sym (append-nil before.done);
+    keys = sym (append-nil before.keys);
     picked = λ n. ap (λ m. picks answer next r m before.done chooser) (zero-add n);
-    same = refl; keyed = keyed; few = few; shape = shape; legal = legal;
+    same = refl;
+    keyed = keyed;
+    few = few;
+    shape = shape;
+    legal = legal;
   }
     where
       zero-add : (n : ℕ) → n ≡ 0 + n
@@ -70,7 +76,6 @@ module _ {C : Type 0} (answer : C → ℕ → ℕ) (next : C → ℕ → C) (sui
   -- ---- a step
 
   module _ (now : Progress) (chooser' : C) (way : OnTheWay now chooser') (later : Progress) (stepped : Stepped answer suite ring now later chooser') where
-
     there : Among stepped.op (ready (situation suite now) now.done)
     there = at_place (ready (situation suite now) now.done) _ stepped.op stepped.picked
 
@@ -123,14 +128,21 @@ module _ {C : Type 0} (answer : C → ℕ → ℕ) (next : C → ℕ → C) (sui
       same =
           ap (λ (p : Progress). ringed suite p ring) stepped.after_is
           ∙ (ring_step suite now stepped.op ring way.keyed there ∙ way.same);
-      keyed = keyed; few = few; shape = shape; legal = legal;
+      keyed = keyed;
+      few = few;
+      shape = shape;
+      legal = legal;
     }
 
   -- ---- the end
 
   pub way_ran : (now : Progress) (chooser' : C) → OnTheWay now chooser' → Ran answer next suite ring before now chooser
   way_ran now chooser' way = record {
-    more = way.more; received = way.received; policy = way.policy; done = way.done; keys = way.keys;
+    more = way.more;
+    received = way.received;
+    policy = way.policy;
+    done = way.done;
+    keys = way.keys;
     picked = way.picked 0 ∙ ap (λ m. picks answer next r m before.done chooser) (add-zero (length way.more));
   }
     where
@@ -138,7 +150,6 @@ module _ {C : Type 0} (answer : C → ℕ → ℕ) (next : C → ℕ → C) (sui
       add-zero n = omega arith
 
   module _ (now : Progress) (chooser' : C) (way : OnTheWay now chooser') (none : ready (situation suite now) now.done ≡ []) where
-
     agrees : Agree (situation suite now) (ringed suite now ring).key (all_operations (situation suite now))
     agrees op in' = ring_keeps (situation suite now) now.done ring op (contains now.done op (all_done (situation suite now) now.done op none (among (all_operations (situation suite now)) op in')))
 

@@ -1,8 +1,10 @@
 //! Whole nodes, from outside.
 
+ghost use Rattle.std.specs.Prelude.{◌-◌};
+
 use super::*;
 use bp_bundle::{Bundle, Reader};
-use bpsec_context::{DefaultSuite, GcmContext, HmacContext, MissetReason, PairSuite};
+use bpsec_context::{DefaultSuite, GcmContext, HmacContext, MissetReason, PairSuite, Suite};
 use bpsec_policy::{KeyRing, Policy};
 use cbor_profile::{Bytes, Fault, Reason};
 use std::alloc::Global;
@@ -22,7 +24,7 @@ struct Case {
     out: Option<&'static [u8]>,
 }
 
-const CASES: [Case; 7] = [
+static CASES: [Case; 7] = [
     // both accepted, order 1
     Case {
         input: b"\x9f\x88\x07\x00\x00\x82\x02\x82\x01\x02\x82\x02\x82\x02\x01\x82\x02\x82\x02\x01\x82\x00\x18(\x1a\x00\x0fB@\x85\x0b\x02\x00\x00XV\xe9m\xa1\x83\xc4\xc0\xcc\x12G@{\x1cas\x105\x04\xd1S\x07r\x8eO{1\x8d\xe4\x9a\xd7\xebD|\xdciu\x83b\xc5\x04\xd0]\xb6\xc5E\xc5P\xc3\x05`\xe4Ql\xe99(\xba\x13I\x15\x11\x01\xcc\xcaI\x8b|\x99\x90\xa0'kR\x02\x94\xa1\xbbN|\x94\xff\xde\xdad\xf6\xe1\xb8\x85\x0c\x03\x01\x00XI\x82\x01\x02\x02\x01\x82\x02\x82\x02\x01\x83\x82\x01LTwelve121212\x82\x02\x01\x82\x04\x00\x82\x81\x82\x01P\xef\xa4\xb5\xac\x01\x08\xe3\x81lV\x06G\x98\x01\xbc\x04\x81\x82\x01P\x90\xb1\xc4A\x0d\x00\xbf\xd8o\xd8\xfa\xe6|\xc9\xf6\xf0\x85\x01\x01\x00\x00X#:\x09\xc1\xe6?\xe2:\x7ff\xa5\x9cs\x03\x83rA\xe0p\xb0&\x19\xfcY\xc5!J\x22\xf0\x8c\xd7\x07\x95\xe7>\x9a\xff",
@@ -87,8 +89,8 @@ const CASES: [Case; 7] = [
     },
     // a wrong key, an age block
     Case {
-        input: b"\x9f\x88\x07\x00\x00\x82\x02\x82\x01\x02\x82\x02\x82\x02\x01\x82\x02\x82\x02\x01\x82\x00\x18(\x1a\x00\x0fB@\x85\x07\x02\x00\x00Ah\x85\x0c\x03\x00\x00X4\x81\x02\x02\x01\x82\x02\x82\x02\x01\x83\x82\x01LTwelve121212\x82\x02\x01\x82\x04\x07\x81\x81\x82\x01P\x1a\x88\xa8>\xac]\xd3r\x1a\xa1Ff\xabu\x8b}\x85\x01\x01\x00\x00X#Ready to generate a 32-byte payload\xff",
-        policy: r#"{"version":1,"node":"ipn:9.1","broken":"keep","default":{"role":"none","failed":"keep","misset":"keep"},"rules":[{"name":"rb","service":"bib","role":"acceptor","key":"k1","failed":"keep","misset":"keep"},{"name":"rc","service":"bcb","role":"acceptor","key":"bad","failed":"keep","misset":"keep"}],"required":[]}"#,
+        input: SEALED,
+        policy: POLICY,
         order: 0,
         events: &[(2, 3, Verdict::Failed)],
         out: Some(
@@ -106,6 +108,14 @@ const CASES: [Case; 7] = [
         ),
     },
 ];
+
+/// An age block, sealed.
+const SEALED: &[u8] =
+    b"\x9f\x88\x07\x00\x00\x82\x02\x82\x01\x02\x82\x02\x82\x02\x01\x82\x02\x82\x02\x01\x82\x00\x18(\x1a\x00\x0fB@\x85\x07\x02\x00\x00Ah\x85\x0c\x03\x00\x00X4\x81\x02\x02\x01\x82\x02\x82\x02\x01\x83\x82\x01LTwelve121212\x82\x02\x01\x82\x04\x07\x81\x81\x82\x01P\x1a\x88\xa8>\xac]\xd3r\x1a\xa1Ff\xabu\x8b}\x85\x01\x01\x00\x00X#Ready to generate a 32-byte payload\xff";
+
+/// The node accepts what is sealed, with a key that isn't the right one.
+const POLICY: &str =
+    r#"{"version":1,"node":"ipn:9.1","broken":"keep","default":{"role":"none","failed":"keep","misset":"keep"},"rules":[{"name":"rb","service":"bib","role":"acceptor","key":"k1","failed":"keep","misset":"keep"},{"name":"rc","service":"bcb","role":"acceptor","key":"bad","failed":"keep","misset":"keep"}],"required":[]}"#;
 
 /// A fragment.
 const FRAGMENT: &[u8] =
@@ -160,22 +170,49 @@ fn is_result(alloc: Global, bundle: Option<&Bundle>, wanted: Option<&[u8]>) -> R
     }
 }
 
+/// A session over the bundle that these bytes are.
+fn begun<'a, S: Suite>(
+    alloc: Global,
+    bytes: &[u8],
+    policy: &'a Policy,
+    suite: &'a S,
+) -> Result<Session<'a, S>, Fail> {
+    let bundle = bundle(alloc, bytes)?;
+    match Session::begin(alloc, bundle, policy, suite) {
+        Ok(session) => Ok(session),
+        Err(_) => Err("a session".into()),
+    }
+}
+
+/// The end of a session by such a chooser.
+fn ended<S: Suite, C: Chooser>(
+    session: Session<'_, S>,
+    ring: &KeyRing,
+    chooser: &mut C,
+) -> Result<Outcome, Fail> {
+    match session.run_all(ring, chooser) {
+        Ok(outcome) => Ok(outcome),
+        Err(_) => Err("an end".into()),
+    }
+}
+
+/// The end of a session over these bytes by such a chooser.
+fn outcome<S: Suite, C: Chooser>(
+    alloc: Global,
+    bytes: &[u8],
+    policy: &str,
+    suite: &S,
+    chooser: &mut C,
+) -> Result<Outcome, Fail> {
+    let policy = Policy::from_json(alloc, policy.as_bytes())?;
+    let ring = KeyRing::from_json(alloc, RING.as_bytes())?;
+    let session = begun(alloc, bytes, &policy, suite)?;
+    ended(session, &ring, chooser)
+}
+
 /// Whether a case comes out as it should by such a chooser.
 fn comes_out<C: Chooser>(alloc: Global, case: &Case, chooser: &mut C) -> Result<bool, Fail> {
-    let policy = Policy::from_json(alloc, case.policy.as_bytes())?;
-    let ring = KeyRing::from_json(alloc, RING.as_bytes())?;
-    let suite = suite();
-    let session = match Session::begin(alloc, bundle(alloc, case.input)?, &policy, &suite) {
-        Ok(session) => session,
-        Err(_) => return Err("a session".into()),
-    };
-    let outcome = match session.run_all(&ring, chooser) {
-        Ok(outcome) => outcome,
-        Err(_) => return Err("an end".into()),
-    };
-    if outcome.done().len() != outcome.verdicts().len() {
-        return Ok(false);
-    }
+    let outcome = outcome(alloc, case.input, case.policy, &suite(), chooser)?;
     Ok(are_events(outcome.events(), case.events) && is_result(alloc, outcome.bundle(), case.out)?)
 }
 
@@ -210,66 +247,40 @@ fn the_order_changes_nothing(rt: HostRuntime) -> Result<(), Fail> {
     Ok(())
 }
 
+/// Bundles, and what stands in the way of a session.
+static REFUSED: [(&[u8], Option<BeginFault>); 4] = [
+    (FRAGMENT, Some(BeginFault::IsFragment)),
+    (
+        TWICE,
+        Some(BeginFault::DoubleCipher {
+            target: 1,
+            first: 2,
+            second: 3,
+        }),
+    ),
+    (
+        EMPTY,
+        Some(BeginFault::BrokenBcb {
+            block: 2,
+            fault: Fault {
+                place: 0,
+                reason: Reason::Truncated,
+            },
+        }),
+    ),
+    (SEALED, None),
+];
+
 /// Why no session over these bytes is begun.
 fn refusal(alloc: Global, bytes: &[u8]) -> Result<Option<BeginFault>, Fail> {
-    let policy = Policy::from_json(alloc, CASES[6].policy.as_bytes())?;
-    let suite = suite();
-    match Session::begin(alloc, bundle(alloc, bytes)?, &policy, &suite) {
-        Ok(_) => Ok(None),
-        Err(fault) => Ok(Some(fault)),
-    }
+    let policy = Policy::from_json(alloc, POLICY.as_bytes())?;
+    Ok(Session::begin(alloc, bundle(alloc, bytes)?, &policy, &suite()).err())
 }
 
 #[test]
 fn says_what_stands_in_the_way(rt: HostRuntime) -> Result<(), Fail> {
-    let alloc = rt.alloc();
-    assert_eq!(rt; refusal(alloc, FRAGMENT)?, Some(BeginFault::IsFragment));
-    let twice = BeginFault::DoubleCipher {
-        target: 1,
-        first: 2,
-        second: 3,
-    };
-    assert_eq!(rt; refusal(alloc, TWICE)?, Some(twice));
-    let fault = Fault {
-        place: 0,
-        reason: Reason::Truncated,
-    };
-    assert_eq!(rt;
-        refusal(alloc, EMPTY)?,
-        Some(BeginFault::BrokenBcb { block: 2, fault })
-    );
-    assert_eq!(rt; refusal(alloc, CASES[6].input)?, None);
-    Ok(())
-}
-
-#[test]
-fn a_session_goes_step_by_step(rt: HostRuntime) -> Result<(), Fail> {
-    let alloc = rt.alloc();
-    let case = &CASES[5];
-    let policy = Policy::from_json(alloc, case.policy.as_bytes())?;
-    let suite = suite();
-    let mut session = match Session::begin(alloc, bundle(alloc, case.input)?, &policy, &suite) {
-        Ok(session) => session,
-        Err(_) => return Err("a session".into()),
-    };
-    if session.ready_len() == 0 {
-        return Err("an operation".into());
+    for (bytes, expected) in &REFUSED {
+        assert_eq!(rt; refusal(rt.alloc(), bytes)?, *expected);
     }
-    let op = session.ready_at(0);
-    assert_eq!(rt; (op.target, op.block), (2, 3));
-    assert_eq!(rt; session.rule_at(op).name.as_slice(), b"rc".as_slice());
-    // Without a key the block stays sealed.
-    let verdict = session.step(op, None)?;
-    assert_eq!(rt; verdict, Verdict::Misset(MissetReason::NoKey));
-    assert_eq!(rt; session.done().len(), 1);
-    assert!(rt; is_result(alloc, Some(session.now()), Some(case.input))?);
-    if session.ready_len() != 0 {
-        return Err("nothing more".into());
-    }
-    let outcome = match session.close() {
-        Ok(outcome) => outcome,
-        Err(_) => return Err("an end".into()),
-    };
-    assert!(rt; are_events(outcome.events(), &[(2, 3, verdict)]));
     Ok(())
 }
