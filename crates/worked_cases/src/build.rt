@@ -146,7 +146,7 @@ fn filled(alloc: Global, len: usize) -> Result<String, Fail> {
     for _ in 0..1023 {
         text.push_str(space)?;
     }
-    while text.len() < len {
+    for _ in 0..len.saturating_sub(text.len()) {
         text.push_str(" ")?;
     }
     Ok(text)

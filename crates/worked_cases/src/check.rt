@@ -8,12 +8,6 @@ use std::test::Fail;
 
 const CHECK: &[&str; 1] = &["check"];
 
-/// What stands before the payload of the ordinary bundle, and after it.
-const FRONT: &[u8] =
-    b"\x9f\x89\x07\x00\x02\x82\x01f//gs/x\x82\x01e//a/y\x82\x01e//a/y\x82\x00\x18(\x1a\x006\xee\x80D\x94\xedR\xb9\x86\n\x02\x00\x02D\x82\x18\x1e\x04D5'h\x8f\x86\x06\x03\x00\x02M\x82\x01j//node-77/D~\xa0v\xa2\x86\x01\x01\x00\x02Z\x00-\xc6\xc0";
-
-const BACK: &[u8] = b"D?\xde\xf2y\xff";
-
 /// Runs `check` on the input in pieces of at most so many bytes.
 fn expect_line(rt: &(impl Abort + AllocGlobal), case: &Input, most: usize) -> Result<(), Fail> {
     let (name, input, line) = *case;
@@ -74,44 +68,6 @@ fn a_large_payload_is_counted(rt: HostRuntime) -> Result<(), Fail> {
             b"ok bytes=100040 blocks=1\n".as_slice()
         );
     }
-    Ok(())
-}
-
-/// Ids of the scheme dtn, a CRC-32C in each block, a hop count and a previous node block, and 3,000,000 bytes of payload.
-#[test]
-fn an_ordinary_bundle_is_counted(rt: HostRuntime) -> Result<(), Fail> {
-    let alloc = rt.alloc();
-    let mut input = Vec::from_slice(alloc, FRONT)?;
-    for _ in 0..30 {
-        input.extend_from_slice(&[7; 100_000])?;
-    }
-    input.extend_from_slice(BACK)?;
-    let made = run_on(alloc, &over_input(CHECK, input.as_slice(), 1_000_000))?;
-    assert_eq!(rt; made.status, Status::Done);
-    assert_eq!(rt;
-        made.out.as_slice(),
-        b"ok bytes=3000099 blocks=3\n".as_slice()
-    );
-    Ok(())
-}
-
-/// As many bytes as a bundle can have.
-#[test]
-fn the_largest_bundle_is_counted(rt: HostRuntime) -> Result<(), Fail> {
-    let alloc = rt.alloc();
-    let mut input = Vec::from_slice(alloc, &PLAIN[..34])?;
-    input.extend_from_slice(b"\x5a\x00\xff\xff\xd8")?;
-    for _ in 0..167 {
-        input.extend_from_slice(&[7; 100_000])?;
-    }
-    input.extend_from_slice(&[7; 77_176])?;
-    input.extend_from_slice(b"\xff")?;
-    let made = run_on(alloc, &over_input(CHECK, input.as_slice(), 1_000_000))?;
-    assert_eq!(rt; made.status, Status::Done);
-    assert_eq!(rt;
-        made.out.as_slice(),
-        b"ok bytes=16777216 blocks=1\n".as_slice()
-    );
     Ok(())
 }
 

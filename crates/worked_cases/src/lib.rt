@@ -14,6 +14,8 @@ mod fragment;
 #[cfg(test)]
 mod inputs;
 #[cfg(test)]
+mod large;
+#[cfg(test)]
 mod plan_refusals;
 #[cfg(test)]
 mod policies;

@@ -12,6 +12,9 @@ pub struct File<'a> {
     pub bytes: &'a [u8],
 }
 
+/// How many bytes a sink has room for, where nothing else is said.
+const ROOM: usize = 65_536;
+
 const NO_FILE: File = File {
     name: "",
     bytes: b"",
@@ -32,6 +35,8 @@ pub struct Given<'a> {
     pub input: &'a [u8],
     /// The most bytes that a read gives.
     pub most: usize,
+    /// How many bytes a sink has room for.
+    pub room: usize,
     pub first: File<'a>,
     pub second: File<'a>,
     pub failing_fetches: &'a [u64],
@@ -46,6 +51,7 @@ pub fn over_input<'a>(words: &'a [&'a str], input: &'a [u8], most: usize) -> Giv
         words,
         input,
         most,
+        room: ROOM,
         first: NO_FILE,
         second: NO_FILE,
         failing_fetches: &[],
@@ -61,6 +67,7 @@ pub fn over_file<'a>(words: &'a [&'a str], first: File<'a>, input: &'a [u8]) -> 
         words,
         input,
         most: 4096,
+        room: ROOM,
         first,
         second: NO_FILE,
         failing_fetches: &[],
@@ -119,9 +126,6 @@ fn put_file(alloc: Global, file: File, files: &mut Vec<NamedFile>) -> Result<(),
     Ok(())
 }
 
-/// How many bytes a sink has room for.
-const ROOM: usize = 65_536;
-
 /// The shelf, with the files that have names.
 fn shelf_of(alloc: Global, given: &Given) -> Result<MemoryShelf, NoMemory> {
     let mut files = Vec::new(alloc);
@@ -138,8 +142,8 @@ fn source_of(alloc: Global, given: &Given) -> Result<MemorySource, NoMemory> {
     Ok(MemorySource::new(input, given.most.max(1), failing))
 }
 
-fn sink_of(alloc: Global, failing: &[u64]) -> Result<MemorySink, NoMemory> {
-    Ok(MemorySink::new(alloc, ROOM, numbers(alloc, failing)?)?)
+fn sink_of(alloc: Global, room: usize, failing: &[u64]) -> Result<MemorySink, NoMemory> {
+    Ok(MemorySink::new(alloc, room, numbers(alloc, failing)?)?)
 }
 
 /// Runs the program.
@@ -147,8 +151,8 @@ pub fn run_on(alloc: Global, given: &Given) -> Result<Made, NoMemory> {
     let words = words_of(alloc, given.words)?;
     let mut input = source_of(alloc, given)?;
     let mut shelf = shelf_of(alloc, given)?;
-    let mut out = sink_of(alloc, given.failing_writes)?;
-    let mut report = sink_of(alloc, given.failing_report_writes)?;
+    let mut out = sink_of(alloc, given.room, given.failing_writes)?;
+    let mut report = sink_of(alloc, given.room, given.failing_report_writes)?;
     let status = run(
         alloc,
         words.as_slice(),
