@@ -3,5 +3,6 @@ mod Fetched
 mod Files
 mod Gathering
 mod Lines
+mod Noded
 mod Numbers
 mod Worlds

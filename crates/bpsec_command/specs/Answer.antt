@@ -13,7 +13,8 @@ use Rattle.bpsec_command.specs.declared.status.Status.TheVariants.{PolicyRefused
 use Rattle.bpsec_command.specs.Refusals.{usage, bundle_refused, text_refused}
 use Rattle.bpsec_command.specs.Done.{checked, explained, built, upgraded, secured, fragmented}
 use Rattle.bpsec_command.specs.Reassembled.{reassembled}
-use Rattle.bpsec_command.specs.Words.{Command, Check, Explain, Build, Upgrade, Secure, Fragment, Reassemble, command_of}
+use Rattle.bpsec_command.specs.Noded.{noded}
+use Rattle.bpsec_command.specs.Words.{Command, Check, Explain, Build, Upgrade, Secure, Fragment, Reassemble, Node, command_of}
 
 -- ---- what is done, in order
 
@@ -53,6 +54,10 @@ job_of (Secure plan keys) =
     Read (λ input. Answered (on_bundle (secured items ring) (read_only input)))))
 job_of (Fragment size) = Read (λ input. Answered (on_bundle (fragmented size) (read_only input)))
 job_of Reassemble = Read (λ input. Answered (reassembled input))
+job_of (Node policy keys order) =
+    with_text policy_of (text_refused PolicyRefused (codes "policy")) policy (λ parts.
+    with_text ring_of (text_refused RingRefused (codes "keys")) keys (λ ring.
+    Read (λ input. Answered (on_bundle (noded order parts ring) (read_only input)))))
 
 abbrev pub job_in : Result Command ℕ → Job
 job_in (Ok command) = job_of command

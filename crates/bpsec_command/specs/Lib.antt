@@ -3,6 +3,8 @@ pub mod Reasons
 pub mod Refusals
 pub mod Done
 pub mod Reassembled
+pub mod NodeReport
+pub mod Noded
 pub mod Answer
 pub mod Due
 pub mod Delivery

@@ -56,6 +56,26 @@ usage word = record { status = Usage word; out = []; report = line (codes "usage
 abbrev pub bundle_refused : Fault → Answer
 bundle_refused fault = record { status = BundleRefused (refused.Fault fault); out = []; report = refused_line fault }
 
+-- a bundle that a node doesn't take
+abbrev pub fragment_refused : Answer
+fragment_refused = record { status = BundleRefused refused.Fragment; out = []; report = line (codes "refused bundle fragment") }
+
+unfoldable pub broken_line : ℕ → Fault → List ℕ
+broken_line number fault =
+    line (codes "refused bundle bcb=" ++ decimal number ++ codes " place=" ++ decimal fault.place ++ codes " reason=" ++ reason_name fault.reason)
+
+abbrev pub broken_refused : ℕ → Fault → Answer
+broken_refused number fault =
+    record { status = BundleRefused (refused.BrokenBcb number fault); out = []; report = broken_line number fault }
+
+unfoldable pub double_line : ℕ → ℕ → ℕ → List ℕ
+double_line target first second =
+    line (codes "refused bundle twice target=" ++ decimal target ++ codes " blocks=" ++ decimal first ++ codes "," ++ decimal second)
+
+abbrev pub double_refused : ℕ → ℕ → ℕ → Answer
+double_refused target first second =
+    record { status = BundleRefused (refused.DoubleCipher target first second); out = []; report = double_line target first second }
+
 -- a text that breaks a rule, told by a word for texts of its kind
 abbrev pub text_refused : (TextFault → Status) → List ℕ → TextFault → Answer
 text_refused status word fault = record { status = status fault; out = []; report = text_line word fault }

@@ -20,6 +20,7 @@ told_by (commands.Upgrade policy) = grammar.Upgrade policy.now
 told_by (commands.Secure plan keys) = grammar.Secure plan.now keys.now
 told_by (commands.Fragment size) = grammar.Fragment size
 told_by commands.Reassemble = grammar.Reassemble
+told_by (commands.Node policy keys order) = grammar.Node policy.now keys.now order
 
 abbrev pub read_as : Result told.Command ℕ → Result Command ℕ
 read_as (Ok command) = Ok (told_by command)

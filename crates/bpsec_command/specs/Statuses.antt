@@ -1,9 +1,9 @@
 -- Statuses: the number of each, and what it says.
 use Rattle.std.specs.Prelude.{ℕ, Bool, true, false, IsTrue}
 use Rattle.bpsec_command.specs.declared.status.Status.{Status}
-use Rattle.bpsec_command.specs.declared.status.Status.TheVariants.{Done, Usage, BundleRefused, PolicyRefused, RingRefused, TextRefused, ReadFault, WriteFault, NoMemory, PlanRefused, PiecesRefused}
+use Rattle.bpsec_command.specs.declared.status.Status.TheVariants.{Done, Discarded, Usage, BundleRefused, PolicyRefused, RingRefused, TextRefused, ReadFault, WriteFault, NoMemory, PlanRefused, PiecesRefused}
 
--- the command was done; it was refused before a read of the input, or after one; a device failed; no memory was left
+-- the command was done, if only by discarding the bundle; it was refused before a read of the input, or after one; a device failed; no memory was left
 pub data Outcome : Type 0 where
   Success : Outcome
   RefusedEarly : Outcome
@@ -14,6 +14,7 @@ pub data Outcome : Type 0 where
 -- a status's number, the exit status of the program, and its outcome
 abbrev pub row_of : Status → ℕ × Outcome
 row_of Done = (0, Success)
+row_of Discarded = (1, Success)
 row_of (Usage word) = (2, RefusedEarly)
 row_of (BundleRefused refused) = (3, RefusedLate)
 row_of (PolicyRefused fault) = (4, RefusedEarly)

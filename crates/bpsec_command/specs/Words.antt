@@ -31,6 +31,7 @@ pub data Command : Type 0 where
   Secure : List ℕ → List ℕ → Command
   Fragment : ℕ → Command
   Reassemble : Command
+  Node : List ℕ → List ℕ → ℕ → Command
 
 -- a line, and the command that words of this line are, with what its slots hold
 pub record Line : Type 0 where
@@ -67,6 +68,10 @@ fragment_slots = Exactly (codes "fragment") ∷ Exactly (codes "--size") ∷ Num
 abbrev pub reassemble_slots : List Slot
 reassemble_slots = Exactly (codes "reassemble") ∷ []
 
+abbrev pub node_slots : List Slot
+node_slots =
+    Exactly (codes "node") ∷ Exactly (codes "--policy") ∷ Name ∷ Exactly (codes "--keys") ∷ Name ∷ Exactly (codes "--order") ∷ Number ∷ []
+
 abbrev pub grammar : List Line
 grammar =
     record { slots = check_slots; command = λ _. Check }
@@ -76,6 +81,7 @@ grammar =
     ∷ record { slots = secure_slots; command = λ words. Secure (word_at 2 words) (word_at 4 words) }
     ∷ record { slots = fragment_slots; command = λ words. Fragment (number_at 2 words) }
     ∷ record { slots = reassemble_slots; command = λ _. Reassemble }
+    ∷ record { slots = node_slots; command = λ words. Node (word_at 2 words) (word_at 4 words) (number_at 6 words) }
     ∷ []
 
 -- how many words from the front a line goes along with
@@ -111,6 +117,7 @@ reads_input (Upgrade policy) = false
 reads_input (Secure plan keys) = true
 reads_input (Fragment size) = true
 reads_input Reassemble = true
+reads_input (Node policy keys order) = true
 
 -- the words are a line of a command that reads the input
 abbrev pub ReadsInput : List (List ℕ) → Type 0
@@ -125,6 +132,7 @@ most_taken_by (Upgrade policy) = 0
 most_taken_by (Secure plan keys) = most_taken
 most_taken_by (Fragment size) = most_taken
 most_taken_by Reassemble = 257 * most_for_one
+most_taken_by (Node policy keys order) = most_taken
 
 abbrev pub most_taken_for : Result Command ℕ → ℕ
 most_taken_for (Ok command) = most_taken_by command

@@ -7,6 +7,7 @@ pub mod build;
 pub mod check;
 pub mod explain;
 pub mod fragment;
+pub mod node;
 pub mod secure;
 pub mod upgrade;
 

@@ -8,6 +8,7 @@ mod deliver;
 mod input;
 mod jobs;
 pub mod laws;
+mod node_report;
 mod program;
 mod reassemble;
 mod refusals;

@@ -1,7 +1,7 @@
 //! The answers of refusals, a line of the report each.
 
 ghost use Rattle.std.specs.Prelude.{◌≡◌, string_bytes, IfOk};
-ghost use Rattle.bpsec_command.specs.Refusals.{at_text, bundle_refused, pieces_refused, plan_refused, reason_line, text_line, text_refused, usage};
+ghost use Rattle.bpsec_command.specs.Refusals.{at_text, broken_line, broken_refused, bundle_refused, double_line, double_refused, fragment_refused, pieces_refused, plan_refused, reason_line, text_line, text_refused, usage};
 ghost use Rattle.bpsec_command.specs.Reasons as names;
 
 use crate::answer::{Answer, refusal};
@@ -47,6 +47,57 @@ pub fn bundle_refused(alloc: Global, fault: Fault) -> Result<Answer, NoMemory>
     let reason = reason_name(fault.reason);
     let line = format!(in alloc; "refused bundle place={place} reason={reason}\n")?;
     Ok(refusal(alloc, Status::BundleRefused(Refused::Fault(fault)), line))
+}
+
+/// The answer to a fragment, which a node doesn't take.
+pub fn fragment_refused(alloc: Global) -> Result<Answer, NoMemory>
+    ensures { IfOk result (λ answer. answer ≡ fragment_refused) }
+{
+    let line = String::from_str(alloc, "refused bundle fragment\n")?;
+    Ok(refusal(alloc, Status::BundleRefused(Refused::Fragment), line))
+}
+
+/// The line of a block confidentiality block that can't be read.
+fn broken_line(alloc: Global, block: u64, fault: Fault) -> Result<String, NoMemory>
+    ensures { IfOk result (λ line. string_bytes line ≡ broken_line block fault) }
+{
+    let place = fault.place;
+    let reason = reason_name(fault.reason);
+    Ok(format!(in alloc; "refused bundle bcb={block} place={place} reason={reason}\n")?)
+}
+
+/// The answer to a bundle with a block confidentiality block that can't be read.
+pub fn broken_refused(alloc: Global, block: u64, fault: Fault) -> Result<Answer, NoMemory>
+    ensures { IfOk result (λ answer. answer ≡ broken_refused block fault) }
+{
+    let line = broken_line(alloc, block, fault)?;
+    let refused = Refused::BrokenBcb { block, fault };
+    Ok(refusal(alloc, Status::BundleRefused(refused), line))
+}
+
+/// The line of a block that is covered twice.
+fn double_line(alloc: Global, target: u64, first: u64, second: u64) -> Result<String, NoMemory>
+    ensures { IfOk result (λ line. string_bytes line ≡ double_line target first second) }
+{
+    Ok(format!(in alloc; "refused bundle twice target={target} blocks={first},{second}\n")?)
+}
+
+/// The answer to a bundle of which a block is covered twice.
+pub fn double_refused(
+    alloc: Global,
+    target: u64,
+    first: u64,
+    second: u64,
+) -> Result<Answer, NoMemory>
+    ensures { IfOk result (λ answer. answer ≡ double_refused target first second) }
+{
+    let line = double_line(alloc, target, first, second)?;
+    let refused = Refused::DoubleCipher {
+        target,
+        first,
+        second,
+    };
+    Ok(refusal(alloc, Status::BundleRefused(refused), line))
 }
 
 /// The name of a reason.

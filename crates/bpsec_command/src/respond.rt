@@ -20,6 +20,7 @@ use crate::jobs::build::Build;
 use crate::jobs::check::Check;
 use crate::jobs::explain::Explain;
 use crate::jobs::fragment::Fragment;
+use crate::jobs::node::Node;
 use crate::jobs::secure::Secure;
 use crate::jobs::upgrade::Upgrade;
 use crate::jobs::{BundleJob, KeyedJob, TextJob};
@@ -232,6 +233,13 @@ pub fn respond<S: Source, K: Shelf>(
         }
         Ok(Command::Fragment { size }) => on_bundle(alloc, input, shelf, &Fragment { size }),
         Ok(Command::Reassemble) => on_fragments(alloc, input, shelf),
+        Ok(
+            Command::Node {
+                policy,
+                keys,
+                order,
+            },
+        ) => on_text_and_ring(alloc, input, shelf, policy, keys, &Node { order }),
         Err(word) => Ok(usage(alloc, word)?),
     }
 }

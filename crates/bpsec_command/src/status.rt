@@ -12,6 +12,8 @@ use cbor_profile::Fault;
 pub enum Status {
     /// The command was done.
     Done,
+    /// The bundle was discarded.
+    Discarded,
     /// The words are no line of the grammar: this is the index of the faulty word.
     Usage {
         word: u64,
@@ -47,6 +49,19 @@ pub enum Status {
 pub enum Refused {
     /// It is no bundle: this is its first fault.
     Fault(Fault),
+    /// It is a fragment, which a node doesn't take.
+    Fragment,
+    /// A block confidentiality block can't be read: the one of least number, with its first fault.
+    BrokenBcb {
+        block: u64,
+        fault: Fault,
+    },
+    /// Two block confidentiality blocks cover one block: the least target, and the two least numbers of these.
+    DoubleCipher {
+        target: u64,
+        first: u64,
+        second: u64,
+    },
 }
 
 /// Why a bundle isn't cut, or fragments aren't joined.
@@ -103,6 +118,7 @@ impl Status {
     {
         match self {
             Status::Done => 0,
+            Status::Discarded => 1,
             Status::Usage { .. } => 2,
             Status::BundleRefused(_) => 3,
             Status::PolicyRefused(_) => 4,

@@ -14,15 +14,30 @@ pub enum Command<'a> {
     /// `explain`: the bundle in lines.
     Explain,
     /// `build --text NAME`: the bundle of a text.
-    Build { text: &'a str },
+    Build {
+        text: &'a str,
+    },
     /// `upgrade --policy NAME`: a policy as a text of version 2.
-    Upgrade { policy: &'a str },
+    Upgrade {
+        policy: &'a str,
+    },
     /// `secure --plan NAME --keys NAME`: the security blocks of a plan added to the bundle.
-    Secure { plan: &'a str, keys: &'a str },
+    Secure {
+        plan: &'a str,
+        keys: &'a str,
+    },
     /// `fragment --size N`: the bundle cut into fragments of so many bytes of payload.
-    Fragment { size: u64 },
+    Fragment {
+        size: u64,
+    },
     /// `reassemble`: the fragments of the input joined.
     Reassemble,
+    /// `node --policy NAME --keys NAME --order N`: what a node makes of the bundle.
+    Node {
+        policy: &'a str,
+        keys: &'a str,
+        order: u64,
+    },
 }
 
 /// What stands at a place of a line.
@@ -154,6 +169,11 @@ pub fn read_words(words: &[String]) -> Result<Command<'_>, u64>
     let fragment = Command::Fragment {
         size: number(words, 2),
     };
+    let node = Command::Node {
+        policy: word(words, 2),
+        keys: word(words, 4),
+        order: number(words, 6),
+    };
     let read = or_line(Err(0), &[Slot::Exactly("check")], words, Command::Check);
     let read = or_line(read, &[Slot::Exactly("explain")], words, Command::Explain);
     let read = or_line(
@@ -194,10 +214,24 @@ pub fn read_words(words: &[String]) -> Result<Command<'_>, u64>
         words,
         fragment,
     );
-    or_line(
+    let read = or_line(
         read,
         &[Slot::Exactly("reassemble")],
         words,
         Command::Reassemble,
+    );
+    or_line(
+        read,
+        &[
+            Slot::Exactly("node"),
+            Slot::Exactly("--policy"),
+            Slot::Name,
+            Slot::Exactly("--keys"),
+            Slot::Name,
+            Slot::Exactly("--order"),
+            Slot::Number,
+        ],
+        words,
+        node,
     )
 }
