@@ -16,6 +16,10 @@ mod inputs;
 #[cfg(test)]
 mod large;
 #[cfg(test)]
+mod node;
+#[cfg(test)]
+mod nodes;
+#[cfg(test)]
 mod plan_refusals;
 #[cfg(test)]
 mod policies;
