@@ -1,4 +1,4 @@
-//! Bundles that are cut, and fragments that are joined. In each row stand a name, the size of a cut, the status, the input and
+//! Bundles that are cut, and fragments that are joined. In each line stand a name, the size of a cut, the status, the input and
 //! the output, both in hexadecimal, and the line of the report.
 
 pub const CUTS: &str =

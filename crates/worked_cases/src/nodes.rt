@@ -1,4 +1,4 @@
-//! Bundles at a node. In each row stand a name, a policy, the name of a key ring with the number of the order and the status, the
+//! Bundles at a node. In each line stand a name, a policy, the name of a key ring with the number of the order and the status, the
 //! input and the output, both in hexadecimal, and the lines of the report between strokes.
 
 /// RFC 9173, appendix A.

@@ -1,4 +1,4 @@
-//! Plans that are refused, in the order of their reasons. In each row stand a name, a plan, the name of a key ring, a bundle in
+//! Plans that are refused, in the order of their reasons. In each line stand a name, a plan, the name of a key ring, a bundle in
 //! hexadecimal, nothing, and the line of the report.
 
 /// What the bundle has.

@@ -8,7 +8,7 @@ pub const FIRST: &str =
 pub const SECOND: &str =
     r#"{"version":2,"node":"ipn:9.1","broken":"keep","default":{"role":"none","failed":"keep","misset":"keep"},"rules":[{"name":"rb","service":"bib","role":"acceptor","key":"k1","failed":"keep","misset":"keep"},{"name":"rc","service":"bcb","role":"acceptor","key":"cek","failed":"keep","misset":"keep"}],"required":[]}"#;
 
-/// In each row a name, a piece of the policy of version 1, what stands in its place, and the line of the refusal.
+/// In each case a name, a piece of the policy of version 1, what stands in its place, and the line of the refusal.
 pub const REFUSALS: &str =
     r#"version 3 ~ "version":1 ~ "version":3 ~ refused policy entry=- reason=Version
 version 3 before a missing key ~ "version":1,"node":"ipn:9.1" ~ "version":3 ~ refused policy entry=- reason=Version
@@ -52,7 +52,7 @@ no targets ~ "name":"rb" ~ "name":"rb","targets":[] ~ refused policy entry=0 rea
 a target of another word ~ "name":"rb" ~ "name":"rb","targets":["primary","secondary"] ~ refused policy entry=0 reason=UnknownWord
 a least scope of 8 ~ "name":"rb" ~ "name":"rb","least_scope":8 ~ refused policy entry=0 reason=WrongShape"#;
 
-/// In each row a name, a piece of the policy of version 1, what stands in its place, and the text of version 2.
+/// In each case a name, a piece of the policy of version 1, what stands in its place, and the text of version 2.
 pub const UPGRADED: &str =
     r#"a name of 64 bytes ~ "rb" ~ "nnnnnnnnnnnnnnnnnnnnnnnnnnnnnnnnnnnnnnnnnnnnnnnnnnnnnnnnnnnnnnnn" ~ {"broken":"keep","default":{"failed":"keep","misset":"keep","role":"none"},"node":"ipn:9.1","required":[],"rules":[{"failed":"keep","key":"k1","misset":"keep","name":"nnnnnnnnnnnnnnnnnnnnnnnnnnnnnnnnnnnnnnnnnnnnnnnnnnnnnnnnnnnnnnnn","role":"acceptor","service":"bib"},{"failed":"keep","key":"cek","misset":"keep","name":"rc","role":"acceptor","service":"bcb"}],"version":2}
 a context of -2^63 ~ "name":"rb" ~ "name":"rb","context":-9223372036854775808 ~ {"broken":"keep","default":{"failed":"keep","misset":"keep","role":"none"},"node":"ipn:9.1","required":[],"rules":[{"context":-9223372036854775808,"failed":"keep","key":"k1","misset":"keep","name":"rb","role":"acceptor","service":"bib"},{"failed":"keep","key":"cek","misset":"keep","name":"rc","role":"acceptor","service":"bcb"}],"version":2}

@@ -1,8 +1,8 @@
-//! Tables as texts: a row a line, its fields between tildes.
+//! Tables as texts: each case is a line, its fields between tildes.
 
 use std::test::Fail;
 
-/// A row of four fields.
+/// A case with four fields.
 #[derive(Clone, Copy)]
 pub struct Row<'a> {
     /// What the case shows.
@@ -17,7 +17,7 @@ pub struct Row<'a> {
 
 const BETWEEN: &str = " ~ ";
 
-/// The fields of a row.
+/// The four fields of a line.
 pub fn fields_of(line: &str) -> Result<Row<'_>, Fail> {
     let (name, rest) = line.split_once(BETWEEN).ok_or("a name")?;
     let (old, rest) = rest.split_once(BETWEEN).ok_or("a piece")?;
@@ -30,7 +30,7 @@ pub fn fields_of(line: &str) -> Result<Row<'_>, Fail> {
     })
 }
 
-/// A row of six fields.
+/// A case with six fields.
 #[derive(Clone, Copy)]
 pub struct Case<'a> {
     /// What the case shows.
@@ -45,7 +45,7 @@ pub struct Case<'a> {
     pub line: &'a str,
 }
 
-/// The fields of a row of six.
+/// The six fields of a line.
 pub fn case_of(line: &str) -> Result<Case<'_>, Fail> {
     let (name, rest) = line.split_once(BETWEEN).ok_or("a name")?;
     let (first, rest) = rest.split_once(BETWEEN).ok_or("a field")?;

@@ -1,4 +1,4 @@
-//! Bundles that are secured. In each row stand a name, a plan, the name of a key ring, a bundle, the secured bundle, both in
+//! Bundles that are secured. In each line stand a name, a plan, the name of a key ring, a bundle, the secured bundle, both in
 //! hexadecimal, and the line of the report.
 
 /// RFC 9173, appendix A.

@@ -4,7 +4,7 @@
 pub const PLAIN: &str =
     r#"{"version":1,"primary":{"flags":0,"crc":0,"to":"ipn:1.2","from":"ipn:2.1","report":"ipn:2.1","created":0,"sequence":40,"lifetime":1000000},"blocks":[{"type":1,"number":1,"flags":0,"crc":0,"body":"526561647920746f2067656e657261746520612033322d62797465207061796c6f6164"}]}"#;
 
-/// In each row a name, a piece of that text, what stands in its place, and the line of the report.
+/// In each case a name, a piece of that text, what stands in its place, and the line of the report.
 pub const BUILDS: &str = r#"no version ~ "version":1, ~  ~ refused text entry=- reason=WrongShape
 a version of another kind ~ "version":1 ~ "version":"1" ~ refused text entry=- reason=WrongShape
 version -1 ~ "version":1 ~ "version":-1 ~ refused text entry=- reason=WrongShape
