@@ -1,17 +1,12 @@
 -- How many coefficients the polynomials have, and what that says of their numbers.
-use Rattle.std.proofs.Common.{◌≡◌, ℕ, zero, suc, ◌+◌, ◌-◌, ◌*◌, ◌/◌, ◌%◌, ◌^◌, ◌<◌, ◌≤◌, max, Bool, true, false, not, List, [], ◌∷◌, ◌++◌, map, length, replicate, refl, sym, ap, ◌∙◌, arith, inl, inr, lit<, length-append, append_assoc, append-nil}
+use Rattle.std.proofs.Common.{◌≡◌, ℕ, zero, suc, ◌+◌, ◌-◌, ◌*◌, ◌/◌, ◌%◌, ◌^◌, ◌<◌, ◌≤◌, Bool, true, false, not, List, [], ◌∷◌, ◌++◌, map, length, replicate, refl, sym, ap, ◌∙◌, arith, inl, inr, lit<, length-append, append_assoc, append-nil}
 use Rattle.std.proofs.lemmas.Nat.{pow_pos}
 use Rattle.std.proofs.lemmas.List.{length-reverse, length-replicate}
 use Rattle.std.proofs.Math.Nat.{pow-suc}
-use Rattle.bp_crc.specs.Polynomial.{sum_of, raised, reduced, divided, remainder}
+use Rattle.gf2_polynomial.proofs.Sums.{length-sum_max}
+use Rattle.bp_crc.specs.Polynomial.{raised, reduced, divided, remainder}
 use Rattle.bp_crc.proofs.Numbers.{below_two}
 use Rattle.bp_crc.specs.Check.{bits_of, number_of, generator, message_bits, dividend}
-
-pub length-sum_of : (p q : List Bool) → length (sum_of p q) ≡ max (length p) (length q)
-unfolding sum_of
-length-sum_of [] q = omega arith
-length-sum_of (a ∷ p) [] = omega arith
-length-sum_of (a ∷ p) (b ∷ q) = omega (arith, length-sum_of p q)
 
 pub length-raised : (p : List Bool) (k : ℕ) → length (raised p k) ≡ length p + k
 length-raised p k = length-append p (replicate k false) ∙ ap (λ n. length p + n) (length-replicate k false)
@@ -29,7 +24,7 @@ pub length-reduced : (low d : List Bool) → suc (length low) ≤ length d → l
 unfolding reduced
 length-reduced low [] h = omega arith
 length-reduced low (false ∷ rest) h = omega arith
-length-reduced low (true ∷ rest) h = omega (arith, length-sum_of low rest)
+length-reduced low (true ∷ rest) h = omega (arith, length-sum_max low rest)
 
 pub length-divided : (low : List Bool) (n : ℕ) (d : List Bool) → length d ≡ n + length low → length (divided low n d) ≡ length low
 unfolding divided
@@ -52,7 +47,7 @@ length-dividend w bytes =
     let message : List Bool = message_bits bytes in
     omega (
       arith,
-      length-sum_of (raised message w) (raised (replicate w true) (length message)),
+      length-sum_max (raised message w) (raised (replicate w true) (length message)),
       length-raised message w,
       length-raised (replicate w true) (length message),
       length-replicate w true,

@@ -3,17 +3,18 @@ use Rattle.std.proofs.Common.{◌≡◌, ℕ, zero, suc, ◌+◌, ◌⊎◌, inl
 use Rattle.std.proofs.lemmas.Nat.{xor_block, xor_comm, xor_mod, xor_shr}
 use Rattle.std.proofs.Math.Nat.{mul-one, pow-suc}
 use lib.Bits.{xor_assoc, xor_zero_r, xor_self, xor_shifted}
-use Rattle.bp_crc.specs.Polynomial.{sum_of, reduced, divided}
+use Rattle.gf2_polynomial.specs.Polynomial.{polynomial_sum}
+use Rattle.bp_crc.specs.Polynomial.{reduced, divided}
 use Rattle.bp_crc.specs.Check.{number_of}
 
-pub number_of-sum_of : (p q : List Bool) → number_of (sum_of p q) ≡ bit_xor (number_of p) (number_of q)
-unfolding number_of sum_of
-number_of-sum_of [] q = refl
-number_of-sum_of (a ∷ p) [] = sym (xor_zero_r _)
-number_of-sum_of (false ∷ p) (false ∷ q) = rw (number_of-sum_of p q) (sym (xor_block 1 (number_of p) (number_of q) 0 0 (lit< tt) (lit< tt)))
-number_of-sum_of (false ∷ p) (true ∷ q) = rw (number_of-sum_of p q) (sym (xor_block 1 (number_of p) (number_of q) 0 1 (lit< tt) (lit< tt)))
-number_of-sum_of (true ∷ p) (false ∷ q) = rw (number_of-sum_of p q) (sym (xor_block 1 (number_of p) (number_of q) 1 0 (lit< tt) (lit< tt)))
-number_of-sum_of (true ∷ p) (true ∷ q) = rw (number_of-sum_of p q) (sym (xor_block 1 (number_of p) (number_of q) 1 1 (lit< tt) (lit< tt)))
+pub number_of-sum : (p q : List Bool) → number_of (polynomial_sum p q) ≡ bit_xor (number_of p) (number_of q)
+unfolding number_of
+number_of-sum [] q = refl
+number_of-sum (a ∷ p) [] = sym (xor_zero_r _)
+number_of-sum (false ∷ p) (false ∷ q) = rw (number_of-sum p q) (sym (xor_block 1 (number_of p) (number_of q) 0 0 (lit< tt) (lit< tt)))
+number_of-sum (false ∷ p) (true ∷ q) = rw (number_of-sum p q) (sym (xor_block 1 (number_of p) (number_of q) 0 1 (lit< tt) (lit< tt)))
+number_of-sum (true ∷ p) (false ∷ q) = rw (number_of-sum p q) (sym (xor_block 1 (number_of p) (number_of q) 1 0 (lit< tt) (lit< tt)))
+number_of-sum (true ∷ p) (true ∷ q) = rw (number_of-sum p q) (sym (xor_block 1 (number_of p) (number_of q) 1 1 (lit< tt) (lit< tt)))
 
 -- t where the lowest bit is one, and else 0
 abbrev pub picked : ℕ → ℕ → ℕ
@@ -46,7 +47,7 @@ number_of-reduced low (true ∷ rest) =
     let n : ℕ = number_of rest in
     let odd : (n * 2 + 1) % 2 ≡ 1 = omega arith in
     let half : (n * 2 + 1) / 2 ≡ n = omega arith in
-    rw (odd, half) (number_of-sum_of low rest)
+    rw (odd, half) (number_of-sum low rest)
 
 pub number_of-divided : (low : List Bool) (n : ℕ) (d : List Bool)
     → number_of (divided low n d) ≡ steps (number_of low) n (number_of d)

@@ -1,7 +1,8 @@
 -- The check values of a bundle's blocks: CRC-16 X-25 and CRC-32C (RFC 9171, section 4.2.1).
 use Rattle.std.specs.Prelude.{ℕ, zero, suc, ◌+◌, ◌*◌, ◌/◌, ◌%◌, Bool, true, not, ◌==◌, ◌||◌, if◌then◌else◌, List, [], ◌∷◌, ◌++◌, map, replicate, reverse, length, IsTrue}
 use Rattle.std.specs.Int.{w16, w32, to_be_bytes}
-use Rattle.bp_crc.specs.Polynomial.{sum_of, raised, remainder}
+use Rattle.gf2_polynomial.specs.Polynomial.{polynomial_sum}
+use Rattle.bp_crc.specs.Polynomial.{raised, remainder}
 use Rattle.bp_crc.specs.declared.kind.CheckKind.{CheckKind}
 use Rattle.bp_crc.specs.declared.kind.CheckKind.TheVariants.{None, Crc16, Crc32c}
 
@@ -34,7 +35,7 @@ message_bits (byte ∷ rest) = bits_of 8 byte ++ message_bits rest
 unfoldable pub dividend : ℕ → List ℕ → List Bool
 dividend w bytes =
     let message = message_bits bytes in
-    sum_of (raised message w) (raised (replicate w true) (length message))
+    polynomial_sum (raised message w) (raised (replicate w true) (length message))
 
 -- The check value of w bits over the bytes: the complement of the remainder, whose highest power is the number's least
 -- significant bit.

@@ -1,5 +1,5 @@
--- The remainder as the number that is kept while bytes are fed, and the table of the bytes' remainders.
-use Rattle.std.specs.Prelude.{ℕ, ◌+◌, Bool, ◌==◌, ◌&&◌, List, [], ◌∷◌}
+-- The remainder as the number that is kept while bytes are fed, and the tables of the bytes' remainders.
+use Rattle.std.specs.Prelude.{◌≡◌, ℕ, ◌+◌, ◌*◌, ◌<◌, List, [], slice_index, slice_index_or}
 use Rattle.bp_crc.specs.Polynomial.{raised, remainder}
 use Rattle.bp_crc.specs.Check.{bits_of, number_of, generator, dividend}
 
@@ -7,11 +7,13 @@ use Rattle.bp_crc.specs.Check.{bits_of, number_of, generator, dividend}
 unfoldable pub register_of : ℕ → List ℕ → ℕ
 register_of w bytes = number_of (remainder (generator w) (dividend w bytes))
 
--- the remainder of a byte's bits times x^w
-unfoldable pub byte_remainder : ℕ → ℕ → ℕ
-byte_remainder w byte = number_of (remainder (generator w) (raised (bits_of 8 byte) w))
+-- the remainder of so many bits with zero bytes behind them, times x^w
+unfoldable pub bits_remainder : ℕ → ℕ → ℕ → ℕ → ℕ
+bits_remainder w size zeros n = number_of (remainder (generator w) (raised (bits_of size n) (8 * zeros + w)))
 
--- the entries, the first of them for `byte`, are the remainders of the bytes from there to 255
-unfoldable pub is_table : ℕ → ℕ → List ℕ → Bool
-is_table w byte [] = byte == 256
-is_table w byte (entry ∷ rest) = (entry == byte_remainder w byte) && is_table w (byte + 1) rest
+-- Four tables of the remainders of the 256 bytes. Behind the bytes of the first stand so many words of four zero bytes,
+-- and behind those of each further one stands a zero byte more.
+abbrev pub AreTables : ℕ → ℕ → List (List ℕ) → Type 0
+AreTables w words tables =
+    (zeros byte : ℕ) → zeros < 4 → byte < 256
+    → slice_index (slice_index_or tables zeros []) byte ≡ bits_remainder w 8 (4 * words + zeros) byte

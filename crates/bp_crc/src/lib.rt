@@ -6,6 +6,7 @@ mod checking;
 mod item;
 mod kind;
 pub mod laws;
+mod sliced;
 mod tables;
 mod value;
 

@@ -5,7 +5,7 @@ ghost use Rattle.std.proofs.Common.{rules};
 ghost use Rattle.bp_crc.specs.Check.{IsWidth, check};
 ghost use Rattle.bp_crc.specs.Table.{register_of};
 
-use crate::tables::table;
+use crate::sliced::{with_bytes, with_groups};
 use cbor_profile::Feed;
 use std::marker::Model;
 
@@ -66,13 +66,9 @@ impl<const BITS: usize> Feed for Crc<BITS> {
     const MOST: u64 = u64::MAX;
 
     fn feed(&mut self, piece: &[u8]) {
-        let mut register = self.register;
-        let table = table::<BITS>();
-        for byte in piece {
-            let index = (register ^ u32::from(*byte)) & 0xff;
-            register = table[index as usize] ^ (register >> 8);
-        }
-        self.register = register;
+        let (groups, rest) = piece.as_chunks::<16>();
+        let whole = with_groups::<BITS>(self.register, groups);
+        self.register = with_bytes::<BITS>(whole, rest);
     }
 
     ghost enough = { Prim.search rules };

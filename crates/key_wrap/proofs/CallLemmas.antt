@@ -2,19 +2,20 @@
 use Rattle.std.proofs.Common.{◌≡◌, ℕ, List, ◌++◌, length, take, drop, refl, sym, ap, ◌∙◌, arith}
 use Rattle.std.proofs.lemmas.List.{take_all, length-drop}
 use Rattle.aes_core.specs.Cipher.{cipher, inverse_cipher}
-use Rattle.key_wrap.specs.KeyWrap.{registers, initial_value, xor_bytes, step_bytes, place, group, with_group, step_count, wrap_step, wrap_steps, wrap, unwrap_step, unwrap_steps, unwrap}
+use Rattle.gf2_polynomial.specs.Bytes.{bytes_sum}
+use Rattle.key_wrap.specs.KeyWrap.{registers, initial_value, step_bytes, place, group, with_group, step_count, wrap_step, wrap_steps, wrap, unwrap_step, unwrap_steps, unwrap}
 
 -- one step of wrapping, by its parts
 pub wrap_step_by : (nk : ℕ) (kek : List ℕ) (t : ℕ) (a r part block after first last a' r' : List ℕ)
     → part ≡ group r (place r t) → block ≡ a ++ part → after ≡ cipher nk kek block → first ≡ take 8 after
-    → a' ≡ xor_bytes first (step_bytes t) → last ≡ drop 8 after → r' ≡ with_group r (place r t) last
+    → a' ≡ bytes_sum first (step_bytes t) → last ≡ drop 8 after → r' ≡ with_group r (place r t) last
     → wrap_step nk kek t (registers a r) ≡ registers a' r'
 unfolding wrap_step
 wrap_step_by nk kek t a r part block after first last a' r' e1 e2 e3 e4 e5 e6 e7 = rw (e7, e6, e5, e4, e3, e2, e1) refl
 
 -- one step of unwrapping, by its parts
 pub unwrap_step_by : (nk : ℕ) (kek : List ℕ) (t : ℕ) (a r part added block after last a' r' : List ℕ)
-    → part ≡ group r (place r t) → added ≡ xor_bytes a (step_bytes t) → block ≡ added ++ part → after ≡ inverse_cipher nk kek block
+    → part ≡ group r (place r t) → added ≡ bytes_sum a (step_bytes t) → block ≡ added ++ part → after ≡ inverse_cipher nk kek block
     → a' ≡ take 8 after → last ≡ drop 8 after → r' ≡ with_group r (place r t) last
     → unwrap_step nk kek t (registers a r) ≡ registers a' r'
 unfolding unwrap_step

@@ -1,4 +1,4 @@
-pub mod XorLemmas
+pub mod StepNumbers
 pub mod RegisterLemmas
 pub mod StepLemmas
 pub mod CallLemmas

@@ -4,7 +4,8 @@ use Rattle.std.proofs.lemmas.List.{take_at, drop_at, take-append-drop}
 use Rattle.std.proofs.lemmas.List.Elements.{All-append, All-take, All-drop, All-replicate}
 use Rattle.aes_core.specs.Cipher.{cipher, inverse_cipher}
 use Rattle.key_wrap.specs.KeyWrap.{IsWrappable, initial_value, step_count, wrap, unwrap, Registers, registers, step_bytes, place, group, with_group, wrap_step, wrap_steps, unwrap_step, unwrap_steps}
-use Rattle.key_wrap.proofs.XorLemmas.{length-xor_bytes, xor_bytes_twice, All-xor_bytes, length-step_bytes, All-step_bytes}
+use Rattle.gf2_polynomial.proofs.ByteSums.{length-bytes_sum, bytes_sum_twice, All-bytes_sum}
+use Rattle.key_wrap.proofs.StepNumbers.{length-step_bytes, All-step_bytes}
 use Rattle.key_wrap.proofs.RegisterLemmas.{place_within, length-group, length-with_group, group-with_group, with_group-undone}
 
 -- a register of 8 bytes, and whole registers of 8 bytes
@@ -37,10 +38,10 @@ module _ (nk : ℕ) (kek : List ℕ) (sixteen : (block : List ℕ) → length (c
       let same : length (take 8 b) ≡ length (step_bytes t) = first ∙ sym (length-step_bytes t) in
       let kept : length (with_group s.groups p (drop 8 b)) ≡ length s.groups = length-with_group s.groups p within (drop 8 b) last in
       record {
-        eight = length-xor_bytes (take 8 b) (step_bytes t) same ∙ first;
+        eight = length-bytes_sum (take 8 b) (step_bytes t) (omega (arith, same)) ∙ first;
         some = rw kept h.some;
         whole = rw kept h.whole;
-        check_bytes = All-xor_bytes (take 8 b) (step_bytes t) same (All-take (λ b. b < 256) 8 b (bytes a)) (All-step_bytes t);
+        check_bytes = All-bytes_sum (take 8 b) (step_bytes t) (All-take (λ b. b < 256) 8 b (bytes a)) (All-step_bytes t);
         group_bytes =
             All-append (λ b. b < 256) (take p s.groups ++ drop 8 b) (drop (p + 8) s.groups)
             (All-append (λ b. b < 256) (take p s.groups) (drop 8 b) (All-take (λ b. b < 256) p s.groups h.group_bytes) (All-drop (λ b. b < 256) 8 b (bytes a)))
@@ -72,7 +73,7 @@ module _ (nk : ℕ) (kek : List ℕ) (sixteen : (block : List ℕ) → length (c
       let long : length a ≡ 16 = omega (arith, length-append s.check (group s.groups p), length-group s.groups p within, h.eight) in
       let clean : All (λ b. b < 256) a =
       All-append (λ b. b < 256) s.check (group s.groups p) h.check_bytes (All-take (λ b. b < 256) 8 (drop p s.groups) (All-drop (λ b. b < 256) p s.groups h.group_bytes)) in
-      rw (kept, xor_bytes_twice (take 8 b) (step_bytes t) same, group-with_group s.groups p within (drop 8 b) last, take-append-drop 8 b, undone a long clean, take_at s.check (group s.groups p) 8 h.eight, drop_at s.check (group s.groups p) 8 h.eight, with_group-undone s.groups p within (drop 8 b) last)
+      rw (kept, bytes_sum_twice (take 8 b) (step_bytes t) (omega (arith, same)), group-with_group s.groups p within (drop 8 b) last, take-append-drop 8 b, undone a long clean, take_at s.check (group s.groups p) 8 h.eight, drop_at s.check (group s.groups p) 8 h.eight, with_group-undone s.groups p within (drop 8 b) last)
       refl
 
   pub unwrap_steps-wrap_steps : (t : ℕ) (s : Registers) → IsState s → unwrap_steps nk kek t (wrap_steps nk kek t s) ≡ s

@@ -1,7 +1,8 @@
 -- The AES key wrap (RFC 3394), in its form with indices, over the cipher of FIPS 197.
-use Rattle.std.specs.Prelude.{◌≡◌, ℕ, zero, suc, ◌+◌, ◌-◌, ◌*◌, ◌/◌, ◌%◌, ◌<◌, ◌≤◌, List, [], ◌∷◌, ◌++◌, All, length, take, drop, replicate, bit_xor}
+use Rattle.std.specs.Prelude.{◌≡◌, ℕ, zero, suc, ◌+◌, ◌-◌, ◌*◌, ◌/◌, ◌%◌, ◌<◌, ◌≤◌, List, ◌++◌, All, length, take, drop, replicate}
 use Rattle.std.specs.Int.{w64, to_be_bytes}
 use Rattle.aes_core.specs.Cipher.{cipher, inverse_cipher}
+use Rattle.gf2_polynomial.specs.Bytes.{bytes_sum}
 
 -- the default initial value (2.2.3.1)
 abbrev pub initial_value : List ℕ
@@ -21,12 +22,6 @@ pub record Registers : Type 0 where
 
 abbrev pub registers : List ℕ → List ℕ → Registers
 registers a r = record { check = a; groups = r }
-
--- the sum of two lists of bytes, byte by byte
-unfoldable pub xor_bytes : List ℕ → List ℕ → List ℕ
-xor_bytes [] ys = []
-xor_bytes (x ∷ xs) [] = []
-xor_bytes (x ∷ xs) (y ∷ ys) = bit_xor x y ∷ xor_bytes xs ys
 
 -- the number of a step as 8 bytes, the high one first
 unfoldable pub step_bytes : ℕ → List ℕ
@@ -49,7 +44,7 @@ unfoldable pub wrap_step : ℕ → List ℕ → ℕ → Registers → Registers
 wrap_step nk kek t s =
     let p = place s.groups t in
     let b = cipher nk kek (s.check ++ group s.groups p) in
-    registers (xor_bytes (take 8 b) (step_bytes t)) (with_group s.groups p (drop 8 b))
+    registers (bytes_sum (take 8 b) (step_bytes t)) (with_group s.groups p (drop 8 b))
 
 -- the registers after the steps 1 to t
 unfoldable pub wrap_steps : ℕ → List ℕ → ℕ → Registers → Registers
@@ -69,7 +64,7 @@ wrap nk kek key =
 unfoldable pub unwrap_step : ℕ → List ℕ → ℕ → Registers → Registers
 unwrap_step nk kek t s =
     let p = place s.groups t in
-    let b = inverse_cipher nk kek (xor_bytes s.check (step_bytes t) ++ group s.groups p) in
+    let b = inverse_cipher nk kek (bytes_sum s.check (step_bytes t) ++ group s.groups p) in
     registers (take 8 b) (with_group s.groups p (drop 8 b))
 
 -- the registers after the steps t to 1

@@ -2,18 +2,18 @@
 
 ghost use Rattle.std.specs.Prelude.{◌≡◌, ◌+◌, ◌%◌, ◌≤◌, ◌++◌, length};
 ghost use Rattle.aes_core.specs.KeyExpansion.{IsKey};
-ghost use Rattle.key_wrap.specs.KeyWrap.{registers, xor_bytes, step_bytes, with_group, wrap_step, wrap_steps, unwrap_step, unwrap_steps, step_count};
+ghost use Rattle.gf2_polynomial.specs.Bytes.{bytes_sum};
+ghost use Rattle.key_wrap.specs.KeyWrap.{registers, step_bytes, with_group, wrap_step, wrap_steps, unwrap_step, unwrap_steps, step_count};
 
 use aes_core::Aes;
+use gf2_polynomial::add_bytes;
 
 // Adds the step number, as 8 bytes.
+#[tactic(auto, unfolding(crate::specs::KeyWrap::step_bytes))]
 fn add_step(check: &mut [u8; 8], t: u64)
-    ensures { check.new ≡ xor_bytes check.old (step_bytes t) }
+    ensures { check.new ≡ bytes_sum check.old (step_bytes t) }
 {
-    let step = t.to_be_bytes();
-    for (i, byte) in check.iter_mut().enumerate() {
-        *byte ^= step[i];
-    }
+    add_bytes(check, &t.to_be_bytes());
 }
 
 // A block of two halves.
