@@ -7,3 +7,14 @@ pub mod StateLemmas
 pub mod RoundLemmas
 pub mod KeyLemmas
 pub mod CipherLemmas
+pub mod BitLemmas
+pub mod ExchangeLemmas
+pub mod Circuit
+pub mod CircuitLemmas
+pub mod LaneLemmas
+pub mod BlockLemmas
+pub mod TranspositionLemmas
+pub mod SlicedLemmas
+pub mod WordLemmas
+pub mod TableLemmas
+pub mod InverseKeyLemmas

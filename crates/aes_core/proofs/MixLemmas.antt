@@ -20,25 +20,9 @@ pub product_by_3 : (a : ℕ) → a < 256 → bit_xor (times_x a) a ≡ product 3
 unfolding times_x product_of_bits product
 product_by_3 = at_each_byte (λ a. bit_xor (times_x a) a) (product 3) refl
 
-pub product_by_9 : (a : ℕ) → a < 256 → bit_xor (times_x (times_x (times_x a))) a ≡ product 0x09 a
-unfolding times_x product_of_bits product
-product_by_9 = at_each_byte (λ a. bit_xor (times_x (times_x (times_x a))) a) (product 9) refl
-
-pub product_by_11 : (a : ℕ) → a < 256 → bit_xor (bit_xor (times_x (times_x (times_x a))) (times_x a)) a ≡ product 0x0b a
-unfolding times_x product_of_bits product
-product_by_11 = at_each_byte (λ a. bit_xor (bit_xor (times_x (times_x (times_x a))) (times_x a)) a) (product 11) refl
-
-pub product_by_13 : (a : ℕ) → a < 256 → bit_xor (bit_xor (times_x (times_x (times_x a))) (times_x (times_x a))) a ≡ product 0x0d a
-unfolding times_x product_of_bits product
-product_by_13 = at_each_byte (λ a. bit_xor (bit_xor (times_x (times_x (times_x a))) (times_x (times_x a))) a) (product 13) refl
-
-pub product_by_14 : (a : ℕ) → a < 256 → bit_xor (bit_xor (times_x (times_x (times_x a))) (times_x (times_x a))) (times_x a) ≡ product 0x0e a
-unfolding times_x product_of_bits product
-product_by_14 = at_each_byte (λ a. bit_xor (bit_xor (times_x (times_x (times_x a))) (times_x (times_x a))) (times_x a)) (product 14) refl
-
 -- ---- the sum of four
 
-abbrev sum4 : ℕ → ℕ → ℕ → ℕ → ℕ
+abbrev pub sum4 : ℕ → ℕ → ℕ → ℕ → ℕ
 sum4 w x y z = bit_xor (bit_xor (bit_xor w x) y) z
 
 sum4-xor : (w x y z w' x' y' z' : ℕ) → sum4 (bit_xor w w') (bit_xor x x') (bit_xor y y') (bit_xor z z') ≡ bit_xor (sum4 w x y z) (sum4 w' x' y' z')
@@ -46,7 +30,7 @@ sum4-xor w x y z w' x' y' z' =
     rw (xor_swap w w' x x', xor_swap (bit_xor w x) (bit_xor w' x') y y', xor_swap (bit_xor (bit_xor w x) y) (bit_xor (bit_xor w' x') y') z z') refl
 
 -- the last of four comes first
-sum4_turned : (w x y z : ℕ) → sum4 w x y z ≡ sum4 z w x y
+pub sum4_turned : (w x y z : ℕ) → sum4 w x y z ≡ sum4 z w x y
 sum4_turned w x y z =
     xor_comm (bit_xor (bit_xor w x) y) z ∙ sym (xor_assoc z (bit_xor w x) y) ∙ ap (λ t. bit_xor t y) (sym (xor_assoc z w x))
 
@@ -121,3 +105,18 @@ mixed-lt a h r =
     let y = product-lt 1 (a ((r + 2) % 4)) (h ((r + 2) % 4)) in
     let z = product-lt 1 (a ((r + 3) % 4)) (h ((r + 3) % 4)) in
     xor_of_bytes _ _ (xor_of_bytes _ _ (xor_of_bytes _ _ w x) y) z
+
+-- the second matrix is additive
+pub unmixed-xor : (f g : ℕ → ℕ) → ((i : ℕ) → f i < 256) → ((i : ℕ) → g i < 256) → (r : ℕ)
+    → unmixed (λ i. bit_xor (f i) (g i)) r ≡ bit_xor (unmixed f r) (unmixed g r)
+unmixed-xor f g p q r =
+    let i : ℕ = (r + 1) % 4 in
+    let j : ℕ = (r + 2) % 4 in
+    let k : ℕ = (r + 3) % 4 in
+    rw (
+      product-xor 14 (f r) (g r) (p r) (q r),
+      product-xor 11 (f i) (g i) (p i) (q i),
+      product-xor 13 (f j) (g j) (p j) (q j),
+      product-xor 9 (f k) (g k) (p k) (q k),
+    )
+    (sum4-xor (product 14 (f r)) (product 11 (f i)) (product 13 (f j)) (product 9 (f k)) (product 14 (g r)) (product 11 (g i)) (product 13 (g j)) (product 9 (g k)))

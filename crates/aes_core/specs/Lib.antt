@@ -3,3 +3,5 @@ pub mod Boxes
 pub mod State
 pub mod KeyExpansion
 pub mod Cipher
+pub mod Sliced
+pub mod Words

@@ -5,12 +5,16 @@
 mod boxes;
 mod cipher;
 mod field;
+mod inverse_keys;
 mod key_expansion;
 pub mod laws;
 mod rounds;
-mod state;
+mod sliced;
+mod tables;
+mod words;
 
 pub use cipher::Aes;
+pub use sliced::SlicedAes;
 
 #[cfg(test)]
 mod tests;

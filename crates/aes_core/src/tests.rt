@@ -1,5 +1,7 @@
 //! The example vectors of FIPS 197, appendix C.
 
+mod sliced;
+
 use crate::Aes;
 use std::test::Fail;
 

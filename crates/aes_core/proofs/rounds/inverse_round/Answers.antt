@@ -1,0 +1,16 @@
+use Rattle.std.proofs.Common.{◌+◌, ◌-◌, ◌%◌, ℕ, get_or}
+use Rattle.std.specs.Int.{byte_at}
+use Rattle.aes_core.specs.Boxes.{inverse_sub_byte}
+use Rattle.aes_core.specs.State.{state_of, unmixed, inverse_mix_columns, inverse_sub_bytes, inverse_shift_rows}
+use Rattle.aes_core.specs.Words.{state_in}
+use Rattle.aes_core.proofs.WordLemmas.{state_from}
+use Rattle.aes_core.proofs.rounds.inverse_round.Goals as goal
+
+pub returns : goal.returns
+unfolding inverse_mix_columns inverse_sub_bytes inverse_shift_rows state_in state_of
+returns c =
+    let s : ℕ → ℕ = λ k. get_or c.args.state k 0 in
+    let bytes : ℕ → ℕ → ℕ = λ r k. unmixed (λ i. inverse_sub_byte (byte_at i (s ((k + 4 - i) % 4)))) r in
+    state_from bytes c.unmixed_column.result c.unmixed_column-2.result c.unmixed_column-3.result c.unmixed_column-4.result
+    (rw c.diagonal.ensures at c.unmixed_column.ensures) (rw c.diagonal-2.ensures at c.unmixed_column-2.ensures)
+    (rw c.diagonal-3.ensures at c.unmixed_column-3.ensures) (rw c.diagonal-4.ensures at c.unmixed_column-4.ensures)
