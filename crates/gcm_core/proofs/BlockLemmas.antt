@@ -10,14 +10,14 @@ use Rattle.std.proofs.Math.Seq.{take-suc}
 use Rattle.std.specs.Int.{w128, byte_at, byte_worth, bytes_high_first, sum_through, from_be_bytes}
 use Rattle.gcm_core.specs.Block.{bits, polynomial_of, block_of, worth}
 
-pow_eight : (n : ℕ) → 2 ^ (8 * n) ≡ 256 ^ n
+pub pow_eight : (n : ℕ) → 2 ^ (8 * n) ≡ 256 ^ n
 pow_eight zero = refl
 pow_eight (suc n) =
     let more : 8 * suc n ≡ 8 * n + 8 = omega arith in
     rw (more, pow-add 2 (8 * n) 8, pow_eight n) (sym (pow-suc 256 n))
 
 -- the bits of a number from bit k on, and those below
-bits-add : (j k n : ℕ) → bits (j + k) n ≡ bits j (n / 2 ^ k) ++ bits k n
+pub bits-add : (j k n : ℕ) → bits (j + k) n ≡ bits j (n / 2 ^ k) ++ bits k n
 unfolding bits
 bits-add zero k n = rw (zero-add k) refl
 bits-add (suc j) k n =
@@ -26,7 +26,7 @@ bits-add (suc j) k n =
     rw (more, deeper, ← bits-add j k n) refl
 
 -- bits below k are those of the number below
-bits_low : (j k a r : ℕ) → j ≤ k → bits j (a * 2 ^ k + r) ≡ bits j r
+pub bits_low : (j k a r : ℕ) → j ≤ k → bits j (a * 2 ^ k + r) ≡ bits j r
 unfolding bits
 bits_low zero k a r h = refl
 bits_low (suc j) k a r h = rw (bit_at_cat_low a k r j (omega arith), bits_low j k a r (omega arith)) refl
@@ -54,12 +54,12 @@ pub Bytes_zeros : (n : ℕ) → Bytes (replicate n 0)
 Bytes_zeros zero = tt
 Bytes_zeros (suc n) = (omega arith, Bytes_zeros n)
 
-value_below : (bytes : List ℕ) → Bytes bytes → value bytes < 256 ^ length bytes
+pub value_below : (bytes : List ℕ) → Bytes bytes → value bytes < 256 ^ length bytes
 value_below [] h = omega arith
 value_below (b ∷ bytes) h =
     rw (pow-suc 256 (length bytes)) (mul-add-lt b (256 ^ length bytes) (value bytes) 256 h.0 (value_below bytes h.1))
 
-bits-value : (bytes : List ℕ) → Bytes bytes → bits (8 * length bytes) (value bytes) ≡ polynomial_of bytes
+pub bits-value : (bytes : List ℕ) → Bytes bytes → bits (8 * length bytes) (value bytes) ≡ polynomial_of bytes
 unfolding bits
 bits-value [] h = refl
 bits-value (b ∷ bytes) h =
@@ -131,7 +131,7 @@ block_of_byte m p =
     )
     (ap (λ (b : ℕ). b ∷ block_of p) (omega arith))
 
-byte_at_is : (k n : ℕ) → n / 256 ^ k % 256 ≡ byte_at k n
+pub byte_at_is : (k n : ℕ) → n / 256 ^ k % 256 ≡ byte_at k n
 byte_at_is zero n = omega arith
 byte_at_is (suc k) n = refl
 
@@ -142,7 +142,7 @@ block_of-bits (suc k) n =
     let more : 8 * suc k ≡ 8 + 8 * k = omega arith in
     rw (more, bits-add 8 (8 * k) n, block_of_byte (n / 2 ^ (8 * k)) (bits (8 * k) n), block_of-bits k n, pow_eight k, byte_at_is k n) refl
 
-block_of_bytes : (bytes : List ℕ) → Bytes bytes → block_of (polynomial_of bytes) ≡ bytes
+pub block_of_bytes : (bytes : List ℕ) → Bytes bytes → block_of (polynomial_of bytes) ≡ bytes
 block_of_bytes [] h = refl
 block_of_bytes (b ∷ bytes) h =
     let same : b % 256 ≡ b = omega (arith, h.0) in

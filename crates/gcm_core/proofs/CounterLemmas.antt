@@ -1,12 +1,15 @@
 -- Counter mode, block by block.
-use Rattle.std.proofs.Common.{◌≡◌, ℕ, ◌+◌, ◌-◌, ◌*◌, ◌/◌, ◌%◌, ◌^◌, ◌<◌, ◌≤◌, min, List, [], ◌∷◌, ◌++◌, length, take, drop, set, get_or, slice_index, bit_xor, refl, sym, ap, ◌∙◌, arith, length-drop, get_or-drop, zero-add, add-zero}
+use Rattle.std.proofs.Common.{◌≡◌, ℕ, ◌+◌, ◌-◌, ◌*◌, ◌/◌, ◌%◌, ◌^◌, ◌<◌, ◌≤◌, min, List, [], ◌∷◌, ◌++◌, length, take, drop, map, set, get_or, slice_index, bit_xor, refl, sym, ap, ◌∙◌, arith, length-drop, get_or-drop, zero-add, add-zero}
 use Rattle.std.proofs.Math.Seq.{take-add}
-use Rattle.std.proofs.lemmas.List.{take_all, drop_all, take_at, drop_at, set_at, get_or_at, take_min, drop_min, append_assoc, append-nil, take_more, drop_more, drop-drop, length-take-le, length-take, length-map}
-use Rattle.std.proofs.lemmas.List.FromFn.{length-enumerate_from}
-use Rattle.std.specs.List.{enumerate_from}
+use Rattle.std.proofs.lemmas.List.{take_all, drop_all, take_at, drop_at, set_at, get_or_at, take_min, drop_min, append_assoc, append-nil, take_more, drop_more, drop-drop, length-take-le, length-take, length-map, length-append, take-append-drop}
+use Rattle.std.proofs.lemmas.List.FromFn.{length-enumerate_from, fill_by_all, get_or-map-range_with_len}
+use Rattle.std.proofs.lemmas.Simd.{length-zip2, put_chunk_whole, map-map}
+use lib.Lanes.{zip2, put_chunk}
+use Rattle.std.specs.List.{enumerate_from, range_with_len}
 use Rattle.std.specs.Int.{w32, from_be_bytes, to_be_bytes, div_ceil}
 use borrow.Rule.Slice.PartMut.{put_mid}
-use Rattle.gcm_core.specs.Counter.{counted, key_stream, counter_mode_from, counter_mode, bytes_sum}
+pub use Rattle.gf2_polynomial.proofs.ByteSums.{length-bytes_sum}
+use Rattle.gcm_core.specs.Counter.{counted, counters_from, key_stream, counter_mode_from, counter_mode, bytes_sum}
 
 -- ---- the counter blocks
 
@@ -23,34 +26,32 @@ counted_is block ys last sum count size l s e =
 
 -- ---- bytes added
 
-pub length-bytes_sum : (a b : List ℕ) → length a ≤ length b → length (bytes_sum a b) ≡ length a
-length-bytes_sum [] b h = refl
-length-bytes_sum (x ∷ a) [] h = absurd (omega arith)
-length-bytes_sum (x ∷ a) (y ∷ b) h = omega (arith, length-bytes_sum a b (omega arith))
+-- 16 bytes added at once
+bytes_sum_zip : (a b : List ℕ) → zip2 bit_xor a b ≡ bytes_sum a b
+bytes_sum_zip [] b = refl
+bytes_sum_zip (x ∷ a) [] = refl
+bytes_sum_zip (x ∷ a) (y ∷ b) = ap (λ (t : List ℕ). bit_xor x y ∷ t) (bytes_sum_zip a b)
 
-bytes_sum_push : (a b : List ℕ) (x : ℕ) → length a < length b
-    → bytes_sum (a ++ x ∷ []) b ≡ bytes_sum a b ++ bit_xor x (get_or b (length a) 0) ∷ []
-bytes_sum_push a [] x h = absurd (omega arith)
-bytes_sum_push [] (y ∷ b) x h = refl
-bytes_sum_push (z ∷ a) (y ∷ b) x h = ap (λ (t : List ℕ). bit_xor z y ∷ t) (bytes_sum_push a b x (omega arith))
+pub bytes_sum_whole : (a b : List ℕ) → length a ≡ 16 → length b ≡ 16
+    → put_chunk 0 a (zip2 bit_xor (take 16 a) (take 16 b)) ≡ bytes_sum a b
+bytes_sum_whole a b h g =
+    rw (take_all 16 a (omega arith), take_all 16 b (omega arith))
+    (put_chunk_whole a (zip2 bit_xor a b) (sym (length-zip2 bit_xor a b (h ∙ sym g))) ∙ bytes_sum_zip a b)
 
--- one byte more of a sum in place
-pub bytes_sum_more : (a b now : List ℕ) (i x : ℕ) → i < length a → i < length b → now ≡ bytes_sum (take i a) b ++ drop i a
-    → x ≡ get_or now i 0
-    → set now i (bit_xor x (get_or b i 0)) ≡ bytes_sum (take (i + 1) a) b ++ drop (i + 1) a
-bytes_sum_more a b now i x h g n e =
-    let size : length (take i a) ≡ i = length-take-le i a (omega arith) in
-    let done : length (bytes_sum (take i a) b) ≡ i = length-bytes_sum (take i a) b (omega arith) ∙ size in
-    let next : ℕ = get_or a i 0 in
-    let split : now ≡ bytes_sum (take i a) b ++ next ∷ drop (i + 1) a =
-    n ∙ ap (λ (t : List ℕ). bytes_sum (take i a) b ++ t) (drop_more a i 0 h) in
-    let read : x ≡ next = e ∙ ap (λ (t : List ℕ). get_or t i 0) split ∙ get_or_at (bytes_sum (take i a) b) next (drop (i + 1) a) 0 i done in
-    let wrote : set now i (bit_xor x (get_or b i 0)) ≡ bytes_sum (take i a) b ++ bit_xor next (get_or b i 0) ∷ drop (i + 1) a =
-    rw (split, read) (set_at (bytes_sum (take i a) b) next (drop (i + 1) a) (bit_xor next (get_or b i 0)) i done) in
-    let grown : bytes_sum (take (i + 1) a) b ≡ bytes_sum (take i a) b ++ bit_xor next (get_or b i 0) ∷ [] =
-    ap (λ (t : List ℕ). bytes_sum t b) (take_more a i 0 h) ∙ bytes_sum_push (take i a) b next (omega arith)
-    ∙ ap (λ (j : ℕ). bytes_sum (take i a) b ++ bit_xor next (get_or b j 0) ∷ []) size in
-    wrote ∙ sym (rw grown (append_assoc (bytes_sum (take i a) b) (bit_xor next (get_or b i 0) ∷ []) (drop (i + 1) a)))
+-- ---- eight blocks
+
+pub counters_are : (counters : List (List ℕ)) (first : List ℕ) (done i : ℕ) → i ≡ 8 → length counters ≡ 8
+    → ((k : ℕ) → k < i → get_or counters k [] ≡ counted first (done + k + 1)) → counters ≡ counters_from first done 8
+unfolding counters_from
+counters_are counters first done i e size held =
+    fill_by_all (λ k. counted first (done + k + 1)) counters 8 [] size (λ k h. held k (omega arith))
+
+pub stream_at : (e : List ℕ → List ℕ) (streams : List (List ℕ)) (first d : List ℕ) (done i : ℕ) → i < 8
+    → streams ≡ map e (counters_from first done 8) → get_or streams i d ≡ e (counted first (done + i + 1))
+unfolding counters_from
+stream_at e streams first d done i h s =
+    ap (λ (t : List (List ℕ)). get_or t i d) (s ∙ map-map e (λ k. counted first (done + k + 1)) (range_with_len 0 8))
+    ∙ get_or-map-range_with_len (λ k. e (counted first (done + k + 1))) 0 8 i i d h (zero-add i)
 
 -- ---- the body
 
@@ -66,6 +67,14 @@ module _ (e : List ℕ → List ℕ) (first : List ℕ) where
       ap (λ (t : List ℕ). bit_xor x (key_stream e first i) ∷ t)
       (counter_mode_from-append (i + 1) a b
       ∙ ap (λ (n : ℕ). counter_mode_from e first (i + 1) a ++ counter_mode_from e first n b) (omega arith))
+
+  -- a body keeps its length while its front goes through counter mode
+  pub length_half_way : (n : ℕ) (whole now : List ℕ) → now ≡ counter_mode_from e first 0 (take n whole) ++ drop n whole
+      → length now ≡ length whole
+  length_half_way n whole now h =
+      ap length h ∙ length-append (counter_mode_from e first 0 (take n whole)) (drop n whole)
+      ∙ ap (λ (k : ℕ). k + length (drop n whole)) (length-counter_mode_from 0 (take n whole))
+      ∙ sym (length-append (take n whole) (drop n whole)) ∙ ap length (take-append-drop n whole)
 
   -- within a block
   counter_mode_block : (k j : ℕ) (bytes stream : List ℕ) → stream ≡ e (counted first (k + 1)) → length stream ≡ 16 → j + length bytes ≤ 16

@@ -1,7 +1,7 @@
 -- GHASH, block by block.
 use Rattle.std.proofs.Common.{◌≡◌, ℕ, zero, suc, ◌+◌, ◌-◌, ◌*◌, ◌/◌, ◌%◌, ◌<◌, ◌≤◌, min, Bool, List, ◌++◌, length, take, drop, replicate, get_or, bit_xor, refl, sym, ap, ◌∙◌, inl, inr, arith, length-append, length-drop}
 use Rattle.std.proofs.Math.Seq.{take-add}
-use Rattle.std.proofs.lemmas.List.{take-append-le, drop-append-le, take_all, drop_at, append-nil, append_assoc, drop-replicate, length-replicate, length-take-le}
+use Rattle.std.proofs.lemmas.List.{take-append-le, take-append-drop, drop-append-le, take_all, drop_at, append-nil, append_assoc, drop-replicate, length-replicate, length-take-le}
 use Rattle.std.proofs.lemmas.Bool.{cases_lt}
 use Rattle.std.specs.Int.{w128, from_be_bytes, div_ceil}
 use borrow.Rule.Slice.PartMut.{post_of}
@@ -23,7 +23,7 @@ filled_block_bits bytes ys number h b e n =
     ∙ bits-from_be_bytes (bytes ++ zeros) whole (Bytes-append bytes zeros (Bytes_from bytes b) (Bytes_zeros (16 - length bytes)))
 
 -- the hash reads only the blocks that it counts
-hash_of_blocks-append : (h : List Bool) (p x : List ℕ) (n : ℕ) → 16 * n ≤ length p → hash_of_blocks h (p ++ x) n ≡ hash_of_blocks h p n
+pub hash_of_blocks-append : (h : List Bool) (p x : List ℕ) (n : ℕ) → 16 * n ≤ length p → hash_of_blocks h (p ++ x) n ≡ hash_of_blocks h p n
 unfolding hash_of_blocks
 hash_of_blocks-append h p x zero g = refl
 hash_of_blocks-append h p x (suc n) g =
@@ -103,3 +103,14 @@ Hashes_all h before bytes k number e held =
           {A = ℕ} ((16 - length bytes % 16) % 16) 0,
     )) in
     rw all at held
+
+-- bytes in two parts, the first of whole blocks
+pub filled_apart : (before bytes : List ℕ) (n : ℕ) → n % 16 ≡ 0 → n ≤ length bytes
+    → (before ++ take n bytes) ++ filled (drop n bytes) ≡ before ++ filled bytes
+filled_apart before bytes n h g =
+    let z : ℕ = (16 - length bytes % 16) % 16 in
+    let size : (16 - length (drop n bytes) % 16) % 16 ≡ z = omega (arith, length-drop n bytes) in
+    ap (λ (k : ℕ). (before ++ take n bytes) ++ (drop n bytes ++ replicate k 0)) size
+    ∙ append_assoc before (take n bytes) (drop n bytes ++ replicate z 0)
+    ∙ ap (λ (t : List ℕ). before ++ t) (sym (append_assoc (take n bytes) (drop n bytes) (replicate z 0))
+    ∙ ap (λ (t : List ℕ). t ++ replicate z 0) (take-append-drop n bytes))

@@ -7,5 +7,13 @@ pub mod CounterLemmas
 pub mod HashLemmas
 pub mod BlockLemmas
 pub mod BitsLemmas
+pub mod ProductLemmas
+pub mod SubkeyLemmas
+pub mod RegisterLemmas
+pub mod ByteLemmas
+pub mod StreamLemmas
+pub mod TableLemmas
+pub mod FirstLemmas
+pub mod GroupLemmas
 pub mod PolynomialLemmas
 pub mod Remainders

@@ -6,17 +6,17 @@ use Rattle.gcm_core.specs.Hash.{block_at, hash_of_blocks, ghash, times_power, po
 use Rattle.gcm_core.proofs.PolynomialLemmas.{remainder-sum, length-remainder, product-sum, sum_self}
 use Rattle.gcm_core.proofs.BitsLemmas.{length-bits, length-low_terms, bits_zero}
 
-block_product-sum : (p q h : List Bool) → block_product (polynomial_sum p q) h ≡ polynomial_sum (block_product p h) (block_product q h)
+pub block_product-sum : (p q h : List Bool) → block_product (polynomial_sum p q) h ≡ polynomial_sum (block_product p h) (block_product q h)
 unfolding block_product
 block_product-sum p q h =
     ap (remainder low_terms) (product-sum p q h) ∙ remainder-sum low_terms (polynomial_product p h) (polynomial_product q h)
 
-length-block_product : (p h : List Bool) → length (block_product p h) ≡ 128
+pub length-block_product : (p h : List Bool) → length (block_product p h) ≡ 128
 unfolding block_product
 length-block_product p h = length-remainder low_terms (polynomial_product p h) ∙ length-low_terms
 
 -- zero times h is zero, since zero is twice zero
-block_product_zero : (h : List Bool) → block_product (bits 128 0) h ≡ bits 128 0
+pub block_product_zero : (h : List Bool) → block_product (bits 128 0) h ≡ bits 128 0
 block_product_zero h =
     let twice : polynomial_sum (bits 128 0) (bits 128 0) ≡ bits 128 0 =
     sum_self (bits 128 0) ∙ ap (λ (n : ℕ). replicate n false) (length-bits 128 0) ∙ sym (bits_zero 128) in

@@ -3,9 +3,10 @@ use Rattle.std.proofs.Common.{◌≡◌, ℕ, zero, suc, ◌+◌, ◌*◌, ◌/�
 use Rattle.std.specs.List.{All}
 use Rattle.std.proofs.lemmas.List.Elements.{recursion_from_All, All-from_recursion}
 use Rattle.std.proofs.lemmas.Nat.{xor_of_8}
+use Rattle.gf2_polynomial.proofs.ByteSums.{All-bytes_sum}
 use Rattle.gcm_core.specs.Block.{worth, block_of, low_terms, block_product}
 use Rattle.gcm_core.specs.Hash.{hash_of_blocks, ghash, filled}
-use Rattle.gcm_core.specs.Counter.{counted, key_stream, counter_mode_from, counter_mode, bytes_sum}
+use Rattle.gcm_core.specs.Counter.{counted, key_stream, counter_mode_from, counter_mode}
 use Rattle.gcm_core.specs.Gcm.{first_block, hash_subkey, length_in_bits, ciphered, tag_of, GivesBlocks}
 use Rattle.gcm_core.proofs.PolynomialLemmas.{length-remainder}
 use Rattle.gcm_core.proofs.BitsLemmas.{length-bits, length-low_terms}
@@ -79,11 +80,6 @@ block_of_bytes (suc k) (a ∷ b ∷ c ∷ d ∷ e ∷ f ∷ g ∷ i ∷ p) h = (
 )
 block_of_bytes (suc k) _ h = absurd (omega arith)
 
-bytes_sum_bytes : (a b : List ℕ) → Bytes a → Bytes b → Bytes (bytes_sum a b)
-bytes_sum_bytes [] b h g = tt
-bytes_sum_bytes (x ∷ a) [] h g = tt
-bytes_sum_bytes (x ∷ a) (y ∷ b) h g = (xor_of_8 x y h.0 g.0, bytes_sum_bytes a b h.1 g.1)
-
 module _ (e : List ℕ → List ℕ) (size : (block : List ℕ) → length (e block) ≡ 16) (iv aad ciphertext : List ℕ) where
   pub length-tag_of : length (tag_of e iv aad ciphertext) ≡ 16
   unfolding tag_of
@@ -99,7 +95,6 @@ module _ (e : List ℕ → List ℕ) (iv aad ciphertext : List ℕ) (blocks : Gi
   unfolding tag_of
   tag_of_bytes =
       let bytes : List ℕ = filled aad ++ filled ciphertext ++ (length_in_bits (length aad) ++ length_in_bits (length ciphertext)) in
-      All-from_recursion (λ byte. byte < 256) (tag_of e iv aad ciphertext)
-      (bytes_sum_bytes (e (first_block e iv)) (block_of (ghash (hash_subkey e) bytes))
-      (recursion_from_All (λ byte. byte < 256) (e (first_block e iv)) (blocks.bytes (first_block e iv)))
+      All-bytes_sum (e (first_block e iv)) (block_of (ghash (hash_subkey e) bytes)) (blocks.bytes (first_block e iv))
+      (All-from_recursion (λ byte. byte < 256) (block_of (ghash (hash_subkey e) bytes))
       (block_of_bytes 16 (ghash (hash_subkey e) bytes) (length-hash_of_blocks (hash_subkey e) bytes (length bytes / 16))))

@@ -1,5 +1,5 @@
 -- What a sealer has taken, byte by byte.
-use Rattle.std.proofs.Common.{◌≡◌, ℕ, ◌+◌, ◌-◌, ◌%◌, ◌^◌, ◌<◌, List, [], ◌∷◌, ◌++◌, length, take, drop, set, replicate, get_or, refl, sym, ap, ◌∙◌, subst, arith, length-drop}
+use Rattle.std.proofs.Common.{◌≡◌, ℕ, ◌+◌, ◌-◌, ◌%◌, ◌^◌, ◌<◌, Bool, List, [], ◌∷◌, ◌++◌, length, take, drop, set, replicate, get_or, refl, sym, ap, ◌∙◌, subst, arith, length-drop}
 use Rattle.std.proofs.lemmas.List.{append-nil, append_assoc, take-append-le, drop-append-le, take-append-drop, take_more, take_more_set, take_all, drop_all, length_push, length-set}
 use Rattle.aes_core.specs.Cipher.{cipher}
 use Rattle.gcm_core.specs.Block.{bits, polynomial_of}
@@ -50,14 +50,14 @@ HasTaken_short nk s t aad byte held few size open_ e =
     })
 
 -- one byte more, which fills the block: the hash takes it in
-pub HasTaken_full : (nk : ℕ) (s t : GcmState) (aad : List ℕ) (byte subkey hash : ℕ) → HasTaken nk s aad → length aad < 2 ^ 61 - 1
+pub HasTaken_full : (nk : ℕ) (s t : GcmState) (aad : List ℕ) (byte hash : ℕ) (subkey : List Bool) → HasTaken nk s aad → length aad < 2 ^ 61 - 1
     → length s.rest ≡ 16
-    → s.fed % 16 ≡ 15 → bits 128 subkey ≡ hash_subkey (cipher nk s.key)
-    → ((before : List ℕ) → Hashes (bits 128 subkey) before s.hash
-    → Hashes (bits 128 subkey) (before ++ filled (set s.rest (s.fed % 16) byte)) hash)
+    → s.fed % 16 ≡ 15 → subkey ≡ hash_subkey (cipher nk s.key)
+    → ((before : List ℕ) → Hashes subkey before s.hash
+    → Hashes subkey (before ++ filled (set s.rest (s.fed % 16) byte)) hash)
     → t ≡ record { key = s.key; hash = hash; rest = set s.rest (s.fed % 16) byte; fed = (s.fed + 1) % 2 ^ 64 }
     → HasTaken nk t (aad ++ byte ∷ [])
-HasTaken_full nk s t aad byte subkey hash held few size full h absorbed e =
+HasTaken_full nk s t aad byte hash subkey held few size full h absorbed e =
     let n : ℕ = length aad in
     let more : length (aad ++ byte ∷ []) ≡ n + 1 = length_push aad byte in
     let count : s.fed ≡ n = held.count in
@@ -71,7 +71,7 @@ HasTaken_full nk s t aad byte subkey hash held few size full h absorbed e =
     rw (filled_whole (set s.rest (s.fed % 16) byte) block_size, block)
     (sym (append_assoc (take (whole_len aad) aad) (drop (whole_len aad) aad) (byte ∷ []))
     ∙ ap (λ (r : List ℕ). r ++ byte ∷ []) (take-append-drop (whole_len aad) aad)) in
-    let before : Hashes (bits 128 subkey) (take (whole_len aad) aad) s.hash = rw h held.hashed in
+    let before : Hashes subkey (take (whole_len aad) aad) s.hash = rw h held.hashed in
     let after : Hashes (hash_subkey (cipher nk s.key)) (aad ++ byte ∷ []) hash =
     rw (h, grown) at (absorbed (take (whole_len aad) aad) before) in
     let all : take (n + 1) (aad ++ byte ∷ []) ≡ aad ++ byte ∷ [] = take_all (n + 1) (aad ++ byte ∷ []) (omega arith) in
@@ -97,13 +97,13 @@ filled_rest aad rest e =
     ∙ ap (λ (t : List ℕ). t ++ replicate ((16 - length aad % 16) % 16) 0) (take-append-drop (whole_len aad) aad))
 
 -- the hash under the subkey goes on by these bytes, from one number to the next
-abbrev pub GoesOn : ℕ → List ℕ → ℕ → ℕ → Type 0
-GoesOn subkey bytes from to = (before : List ℕ) → Hashes (bits 128 subkey) before from
-    → Hashes (bits 128 subkey) (before ++ filled bytes) to
+abbrev pub GoesOn : List Bool → List ℕ → ℕ → ℕ → Type 0
+GoesOn subkey bytes from to = (before : List ℕ) → Hashes subkey before from
+    → Hashes subkey (before ++ filled bytes) to
 
 module _ (nk : ℕ) (s : GcmState) (iv aad ciphertext first lengths block stream tag : List ℕ)
-    (subkey after_aad after_ciphertext after_lengths : ℕ)
-    (key : bits 128 subkey ≡ hash_subkey (cipher nk s.key)) (a : GoesOn subkey (take (s.fed % 16) s.rest) s.hash after_aad)
+    (subkey : List Bool) (after_aad after_ciphertext after_lengths : ℕ)
+    (key : subkey ≡ hash_subkey (cipher nk s.key)) (a : GoesOn subkey (take (s.fed % 16) s.rest) s.hash after_aad)
     (b : GoesOn subkey ciphertext after_aad after_ciphertext) (c : GoesOn subkey lengths after_ciphertext after_lengths)
     (l : lengths ≡ length_in_bits s.fed ++ length_in_bits (length ciphertext)) (size : length lengths ≡ 16)
     (e : stream ≡ cipher nk s.key first) (n : block ≡ to_be_bytes w128 after_lengths) (t : tag ≡ bytes_sum stream block) where
@@ -112,10 +112,10 @@ module _ (nk : ℕ) (s : GcmState) (iv aad ciphertext first lengths block stream
   tag_of_state held f =
       let last : s.fed % 16 ≡ length aad % 16 = ap (λ (m : ℕ). m % 16) held.count in
       let rest : take (s.fed % 16) s.rest ≡ drop (whole_len aad) aad = ap (λ (m : ℕ). take m s.rest) last ∙ held.kept in
-      let start : Hashes (bits 128 subkey) (take (whole_len aad) aad) s.hash = rw key held.hashed in
+      let start : Hashes subkey (take (whole_len aad) aad) s.hash = rw key held.hashed in
       let taken : take (whole_len aad) aad ++ filled (take (s.fed % 16) s.rest) ≡ filled aad =
       filled_rest aad (take (s.fed % 16) s.rest) rest in
-      let one : Hashes (bits 128 subkey) (filled aad) after_aad = rw taken at (a (take (whole_len aad) aad) start) in
+      let one : Hashes subkey (filled aad) after_aad = rw taken at (a (take (whole_len aad) aad) start) in
       let spelled : filled lengths ≡ length_in_bits (length aad) ++ length_in_bits (length ciphertext) =
       filled_whole lengths (rw size refl) ∙ l ∙ ap (λ (m : ℕ). length_in_bits m ++ length_in_bits (length ciphertext)) held.count in
       let all : Hashes (hash_subkey (cipher nk s.key)) (filled aad ++ filled

@@ -4,3 +4,5 @@ pub mod Hash
 pub mod Counter
 pub mod Gcm
 pub mod State
+pub mod Tables
+pub mod Streams

@@ -9,6 +9,7 @@ ghost use Rattle.gcm_core.specs.State.{HasTaken};
 
 use crate::counter::{add, encrypted, run_counter_mode};
 use crate::hash::{absorb, filled_block};
+use crate::subkey::Subkey;
 use crate::tag::{first_block, is_same, lengths};
 use aes_core::Aes;
 use cbor_profile::Feed;
@@ -18,7 +19,7 @@ use std::marker::Model;
 #[derive(Drop)]
 pub struct Gcm<const NK: usize> {
     aes: Aes<NK>,
-    subkey: u128,
+    subkey: Subkey,
     hash: u128,
     rest: [u8; 16],
     fed: u64,
@@ -27,7 +28,6 @@ pub struct Gcm<const NK: usize> {
 impl<const NK: usize> Model for Gcm<NK> {
     ghost use Rattle.std.specs.Prelude.{◌≡◌};
     ghost use Rattle.aes_core.specs.Cipher.{cipher};
-    ghost use Rattle.gcm_core.specs.Block.{bits};
     ghost use Rattle.gcm_core.specs.Gcm.{hash_subkey};
     ghost use Rattle.gcm_core.specs.State.{GcmState};
 
@@ -35,7 +35,7 @@ impl<const NK: usize> Model for Gcm<NK> {
 
     ghost view = { λ g. record { key = g.aes; hash = g.hash; rest = g.rest; fed = g.fed } };
 
-    ghost invariant = { λ g. bits 128 g.subkey ≡ hash_subkey (cipher NK g.aes) };
+    ghost invariant = { λ g. g.subkey ≡ hash_subkey (cipher NK g.aes) };
 }
 
 impl<const NK: usize> Gcm<NK> {
@@ -46,7 +46,7 @@ impl<const NK: usize> Gcm<NK> {
     {
         Gcm {
             aes: key.copy(),
-            subkey: filled_block(&encrypted(key, &[0; 16])),
+            subkey: Subkey::new(filled_block(&encrypted(key, &[0; 16]))),
             hash: 0,
             rest: [0; 16],
             fed: 0,
@@ -62,7 +62,7 @@ impl<const NK: usize> Gcm<NK> {
         ensures tag { (aad : List ℕ) → HasTaken NK self.entry aad
             → result ≡ tag_of (cipher NK self.entry.key) iv.now aad body.new }
     {
-        let first = first_block(&self.aes, self.subkey, iv);
+        let first = first_block(&self.aes, &self.subkey, iv);
         run_counter_mode(&self.aes, &first, body);
         self.tag(&first, body)
     }
@@ -81,7 +81,7 @@ impl<const NK: usize> Gcm<NK> {
         ensures undoes { (aad plain : List ℕ) → HasTaken NK self.entry aad
             → Seals (cipher NK self.entry.key) iv.now aad plain body.old tag.now → IsTrue result × (body.new ≡ plain) }
     {
-        let first = first_block(&self.aes, self.subkey, iv);
+        let first = first_block(&self.aes, &self.subkey, iv);
         let right = is_same(&self.tag(&first, body), tag);
         if right {
             run_counter_mode(&self.aes, &first, body);
@@ -95,7 +95,7 @@ impl<const NK: usize> Gcm<NK> {
         ensures { (aad : List ℕ) → HasTaken NK self.entry aad
             → (IsTrue result ↔ (tag.now ≡ tag_of (cipher NK self.entry.key) iv.now aad body.now)) }
     {
-        let first = first_block(&self.aes, self.subkey, iv);
+        let first = first_block(&self.aes, &self.subkey, iv);
         let right_tag = self.tag(&first, body);
         is_same(&right_tag, tag)
     }
@@ -110,7 +110,7 @@ impl<const NK: usize> Gcm<NK> {
         self.rest[used] = byte;
         self.fed = self.fed.wrapping_add(1);
         if used == 15 {
-            self.hash = absorb(self.subkey, self.hash, &self.rest);
+            self.hash = absorb(&self.subkey, self.hash, &self.rest);
         }
     }
 
@@ -120,10 +120,10 @@ impl<const NK: usize> Gcm<NK> {
             → result ≡ tag_of (cipher NK self.now.key) iv aad ciphertext.now }
     {
         let used = (self.fed % 16) as usize;
-        let hash = absorb(self.subkey, self.hash, &self.rest[..used]);
-        let hash = absorb(self.subkey, hash, ciphertext);
+        let hash = absorb(&self.subkey, self.hash, &self.rest[..used]);
+        let hash = absorb(&self.subkey, hash, ciphertext);
         let lengths = lengths(self.fed, ciphertext.len() as u64);
-        let hash = absorb(self.subkey, hash, &lengths);
+        let hash = absorb(&self.subkey, hash, &lengths);
         let mut tag = encrypted(&self.aes, first);
         add(&mut tag, &hash.to_be_bytes());
         tag

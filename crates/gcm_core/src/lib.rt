@@ -8,6 +8,11 @@ mod counter;
 mod gcm;
 mod hash;
 pub mod laws;
+#[cfg(test)]
+mod long_tests;
+mod registers;
+mod streams;
+mod subkey;
 mod tag;
 #[cfg(test)]
 mod tests;

@@ -2,10 +2,10 @@
 
 ghost use Rattle.std.specs.Prelude.{◌≡◌, ◌↔◌, ◌++◌, IsTrue};
 ghost use Rattle.aes_core.specs.Cipher.{cipher};
-ghost use Rattle.gcm_core.specs.Block.{bits};
 ghost use Rattle.gcm_core.specs.Gcm.{first_block, hash_subkey, length_in_bits};
 
 use crate::hash::absorb;
+use crate::subkey::Subkey;
 use aes_core::Aes;
 
 /// Two lengths in bytes, as the block of the lengths in bits.
@@ -19,8 +19,8 @@ pub(crate) fn lengths(left: u64, right: u64) -> [u8; 16]
 }
 
 /// The block before the first counter.
-pub(crate) fn first_block<const NK: usize>(aes: &Aes<NK>, subkey: u128, iv: &[u8]) -> [u8; 16]
-    requires { bits 128 subkey ≡ hash_subkey (cipher NK aes.now) }
+pub(crate) fn first_block<const NK: usize>(aes: &Aes<NK>, subkey: &Subkey, iv: &[u8]) -> [u8; 16]
+    requires { subkey.now ≡ hash_subkey (cipher NK aes.now) }
     ensures { result ≡ first_block (cipher NK aes.now) iv.now }
 {
     if iv.len() == 12 {

@@ -5,4 +5,4 @@ use Rattle.gcm_core.proofs.counter.run_counter_mode.Given as goal
 
 abbrev pub invariant-loop-block : goal.invariant-loop-block
 invariant-loop-block g l =
-    l.body ≡ counter_mode_from (cipher g.row.NK l.aes) l.first 0 (take (16 * l.block) l.initial.body) ++ drop (16 * l.block) l.initial.body
+    l.body ≡ counter_mode_from (cipher g.row.NK l.aes) l.first 0 (take (16 * l.block) l.fn.body) ++ drop (16 * l.block) l.fn.body

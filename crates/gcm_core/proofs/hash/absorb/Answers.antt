@@ -1,18 +1,14 @@
-use Rattle.std.proofs.Common.{◌*◌, ◌-◌, take, drop, refl, arith}
-use Rattle.gcm_core.proofs.HashLemmas.{Hashes_block, Hashes_all}
-use Rattle.gcm_core.specs.Block.{bits}
+use Rattle.std.proofs.Common.{◌≡◌, ◌-◌, ◌*◌, ◌/◌, ◌++◌, List, ℕ, length, take, drop, ap, ◌∙◌, subst, arith, take_all, length-drop}
+use Rattle.gcm_core.specs.Hash.{Hashes, filled}
+use Rattle.gcm_core.proofs.HashLemmas.{filled_apart}
 use Rattle.gcm_core.proofs.hash.absorb.Goals as goal
-
-pub loop-block-preserved : goal.loop-block-preserved
-loop-block-preserved c = λ before held.
-    let start = 16 * c.loop-block.block in
-    Hashes_block (bits 128 c.args.subkey) before c.args.bytes.now (take (c.min-end.result - start) (drop start c.args.bytes.now))
-    c.loop-block.block
-    c.min-end.result c.loop-block.absorbed c.filled_block.result c.product-absorbed.result (omega (arith, c.div_ceil-block-end.ensures))
-    c.min-end.ensures
-    refl (c.loop-block.invariant before held) c.filled_block.ensures c.product-absorbed.ensures
 
 pub returns : goal.returns
 returns c = λ before held.
-    Hashes_all (bits 128 c.args.subkey) before c.args.bytes.now c.loop-block.block c.loop-block.absorbed
-    (omega (arith, c.div_ceil-block-end.ensures)) (c.loop-block.invariant before held)
+    let bytes = c.args.bytes.now in
+    let n = length bytes / 256 * 256 in
+    let rest : take (length bytes - n) (drop n bytes) ≡ drop n bytes =
+    take_all (length bytes - n) (drop n bytes) (omega (arith, length-drop n bytes)) in
+    let all = c.absorb_blocks-2.ensures (before ++ take n bytes) (c.absorb_groups-hash.ensures before held) in
+    subst (λ (t : List ℕ). Hashes c.args.subkey.now t c.absorb_blocks-2.result)
+    (ap (λ (t : List ℕ). (before ++ take n bytes) ++ filled t) rest ∙ filled_apart before bytes n (omega arith) (omega arith)) all

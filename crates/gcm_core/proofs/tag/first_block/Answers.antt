@@ -1,6 +1,5 @@
 use Rattle.std.proofs.Common.{List, Bool, [], ◌++◌, ◌∙◌, arith, subst}
 use Rattle.aes_core.specs.Cipher.{cipher}
-use Rattle.gcm_core.specs.Block.{bits}
 use Rattle.gcm_core.specs.Hash.{filled, Hashes}
 use Rattle.gcm_core.proofs.TagLemmas.{first_block_of_12, first_block_of_others, Hashes_none}
 use Rattle.gcm_core.proofs.tag.first_block.Goals as goal
@@ -12,8 +11,8 @@ returns-then-iv-eq12 g c =
 pub returns : goal.returns
 returns g c =
     let iv = c.args.iv.now in
-    let held : Hashes (bits 128 c.args.subkey) (filled iv ++ filled c.lengths.result) c.absorb.result =
-    c.absorb.ensures (filled iv) (c.absorb-hash.ensures [] (Hashes_none (bits 128 c.args.subkey))) in
+    let held : Hashes c.args.subkey.now (filled iv ++ filled c.lengths.result) c.absorb.result =
+    c.absorb.ensures (filled iv) (c.absorb-hash.ensures [] (Hashes_none c.args.subkey.now)) in
     c.to_be_bytes.ensures
     ∙ first_block_of_others (cipher g.row.NK c.args.aes.now) iv c.lengths.result c.absorb.result c.if-iv-eq12.false c.lengths.ensures
     (omega arith)

@@ -1,0 +1,8 @@
+use Rattle.std.proofs.Common.{◌≡◌, ◌++◌, ◌*◌, take, drop}
+use Rattle.aes_core.specs.Cipher.{cipher}
+use Rattle.gcm_core.specs.Counter.{counter_mode_from}
+use Rattle.gcm_core.proofs.counter.run_by_eight.Given as goal
+
+abbrev pub invariant-loop-group : goal.invariant-loop-group
+invariant-loop-group g l =
+    l.body ≡ counter_mode_from (cipher g.row.NK l.aes) l.first 0 (take (16 * (8 * l.group)) l.fn.body) ++ drop (16 * (8 * l.group)) l.fn.body

@@ -1,8 +1,0 @@
-use Rattle.std.proofs.Common.{List, ℕ, ◌++◌, ◌*◌, take}
-use Rattle.gcm_core.specs.Block.{bits}
-use Rattle.gcm_core.specs.Hash.{Hashes, filled}
-use Rattle.gcm_core.proofs.hash.absorb.Given as goal
-
-abbrev pub invariant-loop-block : goal.invariant-loop-block
-invariant-loop-block l = (before : List ℕ) → Hashes (bits 128 l.subkey) before l.hash
-    → Hashes (bits 128 l.subkey) (before ++ take (16 * l.block) (filled l.bytes)) l.absorbed
