@@ -49,14 +49,14 @@ moved_to value at end rest e = rw e refl
 
 -- ---- ids, contents, checks
 
-id_again : (laws : Laws) (eid : Eid) (at : ℕ) (rest : List ℕ) → ids.Fits eid → id_at (here at (ids.spelling eid ++ rest)) ≡ Ok (eid, here (at + length (ids.spelling eid)) rest)
+pub id_again : (laws : Laws) (eid : Eid) (at : ℕ) (rest : List ℕ) → ids.Fits eid → id_at (here at (ids.spelling eid ++ rest)) ≡ Ok (eid, here (at + length (ids.spelling eid)) rest)
 unfolding id_at reading.read_id
 id_again laws eid at rest fits =
     let text = ids.spelling eid in
     let len : length (text ++ rest) - length rest ≡ length text = omega (arith, length-append text rest) in
     rw (laws.ids.again eid rest fits, len, drop_at text rest (length text) refl) refl
 
-content_again : (content : List ℕ) (at : ℕ) (rest : List ℕ) → content_at (length content) (here at (content ++ rest)) ≡ Ok (content, here (at + length content) rest)
+pub content_again : (content : List ℕ) (at : ℕ) (rest : List ℕ) → content_at (length content) (here at (content ++ rest)) ≡ Ok (content, here (at + length content) rest)
 unfolding content_at
 content_again content at rest =
     let long : ltb (length (content ++ rest)) (length content) ≡ false = le-ltb _ _ (omega (arith, length-append content rest)) in
@@ -105,7 +105,7 @@ check_string_again laws kind check at rest long room =
     let end : at + length head + length check ≡ at + length (head ++ check) = omega arith in
     rw (regrouped, argument, content_again check (at + length head) rest, same, end) refl
 
-check_again : (laws : Laws) (kind : CheckKind) (check : List ℕ) (at : ℕ) (rest : List ℕ) → length check ≡ length (zeros kind) → at + length (check_item kind check) < BUNDLE_LIMIT
+pub check_again : (laws : Laws) (kind : CheckKind) (check : List ℕ) (at : ℕ) (rest : List ℕ) → length check ≡ length (zeros kind) → at + length (check_item kind check) < BUNDLE_LIMIT
     → check_at kind check (here at (check_item kind check ++ rest)) ≡ Ok (here (at + length (check_item kind check)) rest)
 unfolding check_at
 check_again laws kinds.None check at rest long room = rw (add-zero at) refl

@@ -30,7 +30,7 @@ use Rattle.bp_bundle.proofs.Arguments.{IsBytes, bind_ok, ok_is, passed, Took, to
 use Rattle.bp_bundle.proofs.PrimaryMeans.{Laws, first_holds, content_means, check_type_means, check_means, check_size, number_means, take_drop_bytes, primary_means}
 use Rattle.bp_bundle.proofs.Shapes.{Differ, Once, Keeps, numbered_is, all_differ, payload_is}
 
-not_true : (b : Bool) → not b ≡ true → b ≡ false
+pub not_true : (b : Bool) → not b ≡ true → b ≡ false
 not_true true is = absurd cc
 not_true false is = refl
 
@@ -40,7 +40,7 @@ not_true false is = refl
 unfoldable pub header_text : Header → List ℕ
 header_text header = array_head (5 + check_count header.crc) ++ uint header.kind ++ uint header.number ++ uint header.flags ++ uint (check_type header.crc) ++ head_spelling 2 header.len
 
-record ReadsHeader (before : List Block) (cursor : Cursor) (header : Header) (after : Cursor) : Type 0 where
+pub record ReadsHeader (before : List Block) (cursor : Cursor) (header : Header) (after : Cursor) : Type 0 where
   pub took : Took (header_text header) cursor after
   pub kind : header.kind < 2 ^ 64
   pub number : header.number < 2 ^ 64
@@ -50,7 +50,7 @@ record ReadsHeader (before : List Block) (cursor : Cursor) (header : Header) (af
   pub new : is_repeated before (block_of header []) ≡ false
   pub room : after.at + header.len < BUNDLE_LIMIT
 
-five_or_six : (items : ℕ) (checked : Bool) → (eqb items 5 || eqb items 6) ≡ true → eqb items 6 ≡ checked → items ≡ 5 + cond checked 1 0
+pub five_or_six : (items : ℕ) (checked : Bool) → (eqb items 5 || eqb items 6) ≡ true → eqb items 6 ≡ checked → items ≡ 5 + cond checked 1 0
 five_or_six items true e f = eqb-true items 6 f
 five_or_six items false e f = eqb-true items 5 (first_of (eqb items 5) (eqb items 6) e f)
   where
@@ -58,7 +58,7 @@ five_or_six items false e f = eqb-true items 5 (first_of (eqb items 5) (eqb item
     first_of true b e f = refl
     first_of false b e f = absurd cc
 
-header_means : (laws : Laws) (before : List Block) (cursor : Cursor) (x : Header × Cursor) → IsBytes cursor.rest → header_at before cursor ≡ Ok x → ReadsHeader before cursor x.0 x.1
+pub header_means : (laws : Laws) (before : List Block) (cursor : Cursor) (x : Header × Cursor) → IsBytes cursor.rest → header_at before cursor ≡ Ok x → ReadsHeader before cursor x.0 x.1
 unfolding header_at header_text array_head uint
 header_means laws before cursor x fits e =
     let i = bind_ok (argument_at before tokens.BlockArray cursor) _ x e in
@@ -92,7 +92,7 @@ header_means laws before cursor x fits e =
     })
 
 -- where a check was read, there is room for the end
-string_room : (laws : Laws) (kind : CheckKind) (check : List ℕ) (cursor after : Cursor) → IsBytes cursor.rest → check_string_at kind check cursor ≡ Ok after → after.at < BUNDLE_LIMIT
+pub string_room : (laws : Laws) (kind : CheckKind) (check : List ℕ) (cursor after : Cursor) → IsBytes cursor.rest → check_string_at kind check cursor ≡ Ok after → after.at < BUNDLE_LIMIT
 unfolding check_string_at
 string_room laws kind check cursor after fits e =
     let b = bind_ok (argument_at [] (tokens.CheckString kind) cursor) _ after e in
@@ -116,7 +116,7 @@ check_room laws kinds.Crc16 check cursor after fits room e = string_room laws ki
 check_room laws kinds.Crc32c check cursor after fits room e = string_room laws kinds.Crc32c check cursor after fits e
 
 -- a block that was read, up to the end of its check
-record ReadsBlock (before : List Block) (cursor : Cursor) (block : Block) (after : Cursor) : Type 0 where
+pub record ReadsBlock (before : List Block) (cursor : Cursor) (block : Block) (after : Cursor) : Type 0 where
   pub took : Took (blocks.spelling block) cursor after
   pub fits : IsBlock block
   pub few : length before < 64
@@ -133,7 +133,7 @@ block_text header body long =
     rw (← long) (ap (λ (t : List ℕ). t ++ check_item header.crc (block_check block)) (append_assoc fields (head_spelling 2 (length body)) body))
 
 -- the rest of a block after its header
-body_means : (laws : Laws) (before : List Block) (cursor : Cursor) (header : Header) (start : Cursor) (body : List ℕ) (middle after : Cursor) → ReadsHeader before cursor header start
+pub body_means : (laws : Laws) (before : List Block) (cursor : Cursor) (header : Header) (start : Cursor) (body : List ℕ) (middle after : Cursor) → ReadsHeader before cursor header start
     → content_at header.len start ≡ Ok (body, middle) → check_at header.crc (block_check (block_of header body)) middle ≡ Ok after → ReadsBlock before cursor (block_of header body) after
 body_means laws before cursor header start body middle after rh eb ec =
     let content = content_means header.len start (body, middle) rh.took.fits eb in
@@ -186,16 +186,16 @@ end_means cursor after fits room e = end_by cursor.at cursor.rest after fits roo
         subst (λ (c : Cursor). Took (0xff ∷ []) (record { at = at; rest = first ∷ rest }) c × (c.at ≤ BUNDLE_LIMIT)) p.1
         (record { parts = rw same refl; moved = refl; fits = λ i. fits (suc i) }, omega arith)
 
-last_one : (block : Block) → is_payload block ≡ true → HoldsAt IsPayload (block ∷ []) (length (block ∷ []) - 1)
+pub last_one : (block : Block) → is_payload block ≡ true → HoldsAt IsPayload (block ∷ []) (length (block ∷ []) - 1)
 last_one block is = λ d. payload_is block is
 
-last_more : (block : Block) (tail : List Block) → 1 ≤ length tail → HoldsAt IsPayload tail (length tail - 1) → HoldsAt IsPayload (block ∷ tail) (length (block ∷ tail) - 1)
+pub last_more : (block : Block) (tail : List Block) → 1 ≤ length tail → HoldsAt IsPayload tail (length tail - 1) → HoldsAt IsPayload (block ∷ tail) (length (block ∷ tail) - 1)
 last_more block [] some last = absurd (omega arith)
 last_more block (next ∷ tail) some last = λ d.
     let one : length (block ∷ next ∷ tail) - 1 ≡ suc (length (next ∷ tail) - 1) = omega arith in
     rw one (last d)
 
-all_more : (P : Block → Type 0) (block : Block) (tail : List Block) → P block → All P tail → All P (block ∷ tail)
+pub all_more : (P : Block → Type 0) (block : Block) (tail : List Block) → P block → All P tail → All P (block ∷ tail)
 all_more P block tail here more = at
   where
     at : (k : ℕ) (d : Block) → k < suc (length tail) → P (get_or (block ∷ tail) k d)
@@ -259,7 +259,7 @@ blocks_means laws (suc more) before cursor x fits e =
 
 -- ---- bundles
 
-begin_means : (cursor after : Cursor) → IsBytes cursor.rest → begin_at cursor ≡ Ok after → Took (0x9f ∷ []) cursor after
+pub begin_means : (cursor after : Cursor) → IsBytes cursor.rest → begin_at cursor ≡ Ok after → Took (0x9f ∷ []) cursor after
 unfolding begin_at
 begin_means cursor after fits e = begin_by cursor.at cursor.rest after fits e
   where
@@ -280,7 +280,7 @@ pub record ReadsBundle (cursor : Cursor) (bundle : Contents) (after : Cursor) : 
   pub took : Took (spelling bundle) cursor after
   pub shape : cursor.at ≡ 0 → IsBundle bundle
 
-regrouped : (primary : Primary) (tail : List Block) → (0x9f ∷ []) ++ (primaries.spelling primary ++ (flat_map blocks.spelling tail ++ 0xff ∷ [])) ≡ spelling (record { primary = primary; blocks = tail })
+pub regrouped : (primary : Primary) (tail : List Block) → (0x9f ∷ []) ++ (primaries.spelling primary ++ (flat_map blocks.spelling tail ++ 0xff ∷ [])) ≡ spelling (record { primary = primary; blocks = tail })
 unfolding spelling
 regrouped primary tail = ap (λ (t : List ℕ). 0x9f ∷ t) (sym (append_assoc (primaries.spelling primary) (flat_map blocks.spelling tail) (0xff ∷ [])))
 

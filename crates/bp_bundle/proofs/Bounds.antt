@@ -89,7 +89,7 @@ one_reason false reason next other others e = other (some_same e)
     some_same : {r s : Reason} → ◌≡◌ {A = Option Reason} (Some r) (Some s) → r ≡ s
     some_same e = cc
 
-never_early : (before : List Block) (token : Token) (n : ℕ) → first_failing (conditions before token) n ≡ Some reasons.Truncated → ⊥
+pub never_early : (before : List Block) (token : Token) (n : ℕ) → first_failing (conditions before token) n ≡ Some reasons.Truncated → ⊥
 never_early before tokens.PrimaryArray n = one_reason _ reasons.WrongCount None (λ e. cc) (λ e. cc)
 never_early before tokens.Version n = one_reason _ reasons.WrongValue None (λ e. cc) (λ e. cc)
 never_early before (tokens.BundleFlags items) n = one_reason _ reasons.WrongCount None (λ e. cc) (λ e. cc)

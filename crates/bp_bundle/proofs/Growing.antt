@@ -98,7 +98,7 @@ stops_grows e cursor more reasons.Repeated stays = refl
 
 -- ---- heads
 
-let_by : (b : Bool) (x y z : HeadRead) → cond b x y ≡ z → (x ≡ z → ⊥) → (b ≡ false) × (y ≡ z)
+pub let_by : (b : Bool) (x y z : HeadRead) → cond b x y ≡ z → (x ≡ z → ⊥) → (b ≡ false) × (y ≡ z)
 let_by true x y z e differs = absurd (differs e)
 let_by false x y z e differs = (refl, e)
 

@@ -21,3 +21,17 @@ mod Runs
 mod Taken
 mod WholeInputs
 mod InTurn
+mod Fresh
+mod Reached
+mod HeadsReached
+mod IdsReached
+mod BlockReached
+mod BlocksReached
+mod PartsReached
+mod PrimaryReached
+mod BundleReached
+mod Sealed
+mod SealedHeads
+mod SealedIds
+mod SealedParts
+mod SealedBundle

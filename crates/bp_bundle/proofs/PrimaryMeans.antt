@@ -109,7 +109,7 @@ pub record ReadsCheckType (checked : Bool) (cursor : Cursor) (kind : CheckKind) 
   pub took : Took (uint (check_type kind)) cursor after
   pub count : check_count kind ≡ cond checked 1 0
 
-exactly_is : (a b : Bool) → exactly a b ≡ true → a ≡ b
+pub exactly_is : (a b : Bool) → exactly a b ≡ true → a ≡ b
 exactly_is true true is = refl
 exactly_is true false is = absurd cc
 exactly_is false true is = absurd cc
@@ -174,20 +174,20 @@ pub number_means : (laws : Laws) (before : List Block) (cursor : Cursor) (x : �
 unfolding uint
 number_means laws before cursor x fits e = let h = argument_means laws.heads before tokens.Number cursor x fits e in (h.took, h.fits)
 
-pair_means : (laws : Laws) (cursor : Cursor) (x : ℕ × Cursor) → IsBytes cursor.rest → argument_at [] tokens.Pair cursor ≡ Ok x → Took (array_head 2) cursor x.1
+pub pair_means : (laws : Laws) (cursor : Cursor) (x : ℕ × Cursor) → IsBytes cursor.rest → argument_at [] tokens.Pair cursor ≡ Ok x → Took (array_head 2) cursor x.1
 unfolding array_head
 pair_means laws cursor x fits e =
     let h = argument_means laws.heads [] tokens.Pair cursor x fits e in
     let two = first_holds (eqb x.0 2) reasons.WrongCount None h.none_fails in
     took-same _ _ cursor x.1 (ap (head_spelling 4) (eqb-true _ _ two.0)) h.took
 
-record ReadsNodes (cursor : Cursor) (nodes : Nodes) (after : Cursor) : Type 0 where
+pub record ReadsNodes (cursor : Cursor) (nodes : Nodes) (after : Cursor) : Type 0 where
   pub took : Took (ids.spelling nodes.destination ++ ids.spelling nodes.source ++ ids.spelling nodes.report_to) cursor after
   pub destination : ids.Fits nodes.destination
   pub source : ids.Fits nodes.source
   pub report_to : ids.Fits nodes.report_to
 
-nodes_means : (laws : Laws) (cursor : Cursor) (x : Nodes × Cursor) → IsBytes cursor.rest → nodes_at cursor ≡ Ok x → ReadsNodes cursor x.0 x.1
+pub nodes_means : (laws : Laws) (cursor : Cursor) (x : Nodes × Cursor) → IsBytes cursor.rest → nodes_at cursor ≡ Ok x → ReadsNodes cursor x.0 x.1
 unfolding nodes_at
 nodes_means laws cursor x fits e =
     let a = bind_ok (id_at cursor) _ x e in
@@ -203,13 +203,13 @@ nodes_means laws cursor x fits e =
       report_to = rc.fits;
     })
 
-record ReadsTimes (cursor : Cursor) (times : Times) (after : Cursor) : Type 0 where
+pub record ReadsTimes (cursor : Cursor) (times : Times) (after : Cursor) : Type 0 where
   pub took : Took (array_head 2 ++ uint times.created ++ uint times.sequence ++ uint times.lifetime) cursor after
   pub created : times.created < 2 ^ 64
   pub sequence : times.sequence < 2 ^ 64
   pub lifetime : times.lifetime < 2 ^ 64
 
-times_means : (laws : Laws) (cursor : Cursor) (x : Times × Cursor) → IsBytes cursor.rest → times_at cursor ≡ Ok x → ReadsTimes cursor x.0 x.1
+pub times_means : (laws : Laws) (cursor : Cursor) (x : Times × Cursor) → IsBytes cursor.rest → times_at cursor ≡ Ok x → ReadsTimes cursor x.0 x.1
 unfolding times_at
 times_means laws cursor x fits e =
     let p = bind_ok (argument_at [] tokens.Pair cursor) _ x e in
@@ -253,7 +253,7 @@ piece_means laws true cursor x fits e =
 
 -- ---- the array up to the check
 
-few_items : (items : ℕ) → (leb 8 items && leb items 11) ≡ true → (8 ≤ items) × (items ≤ 11)
+pub few_items : (items : ℕ) → (leb 8 items && leb items 11) ≡ true → (8 ≤ items) × (items ≤ 11)
 few_items items e = let parts = and_parts (leb 8 items) (leb items 11) e in (leb-true _ _ parts.0, leb-true _ _ parts.1)
 
 -- how many items there are, by the two tests on their number
@@ -264,38 +264,38 @@ items_by (suc (suc zero)) le fragmented checked e f = rw (← e, ← f) refl
 items_by (suc (suc (suc zero))) le fragmented checked e f = rw (← e, ← f) refl
 items_by (suc (suc (suc (suc n)))) le fragmented checked e f = absurd (omega arith)
 
-items_are : (items : ℕ) → 8 ≤ items → items ≤ 11 → (fragmented checked : Bool) → leb 10 items ≡ fragmented → eqb (items % 2) 1 ≡ checked
+pub items_are : (items : ℕ) → 8 ≤ items → items ≤ 11 → (fragmented checked : Bool) → leb 10 items ≡ fragmented → eqb (items % 2) 1 ≡ checked
     → items ≡ 8 + cond fragmented 2 0 + cond checked 1 0
 items_are items low high fragmented checked e f =
     let whole : 8 + (items - 8) ≡ items = omega arith in
     sym whole ∙ items_by (items - 8) (omega arith) fragmented checked (rw whole e) (rw whole f)
 
-piece_count : (fragmented : Bool) (piece : Piece) → fragment_count (piece_if fragmented piece) ≡ cond fragmented 2 0
+pub piece_count : (fragmented : Bool) (piece : Piece) → fragment_count (piece_if fragmented piece) ≡ cond fragmented 2 0
 piece_count true piece = refl
 piece_count false piece = refl
 
-piece_fits : (fragmented : Bool) (piece : Piece) → piece.offset < 2 ^ 64 → piece.total < 2 ^ 64 → ForSome (piece_if fragmented piece) (λ p. (p.offset < 2 ^ 64) × (p.total < 2 ^ 64))
+pub piece_fits : (fragmented : Bool) (piece : Piece) → piece.offset < 2 ^ 64 → piece.total < 2 ^ 64 → ForSome (piece_if fragmented piece) (λ p. (p.offset < 2 ^ 64) × (p.total < 2 ^ 64))
 piece_fits true piece offset total = λ p e. let P : Piece → Type 0 = λ q. (q.offset < 2 ^ 64) × (q.total < 2 ^ 64) in subst P (some_is piece p e) (offset, total)
   where
     some_is : (a b : Piece) → ◌≡◌ {A = Option Piece} (Some a) (Some b) → a ≡ b
     some_is a b e = cc
 piece_fits false piece offset total = λ p e. absurd cc
 
-record ReadsFields (cursor : Cursor) (primary : Primary) (after : Cursor) : Type 0 where
+pub record ReadsFields (cursor : Cursor) (primary : Primary) (after : Cursor) : Type 0 where
   pub took : Took (primaries.front primary ++ primaries.nodes primary ++ primaries.times primary ++ fragment_items primary.fragment) cursor after
   pub fits : IsPrimary primary
 
-front_is : (items flags : ℕ) (kind : CheckKind) (nodes : Nodes) (times : Times) (piece : Piece) → items ≡ 8 + fragment_count (piece_if (is_fragment flags) piece) + check_count kind
+pub front_is : (items flags : ℕ) (kind : CheckKind) (nodes : Nodes) (times : Times) (piece : Piece) → items ≡ 8 + fragment_count (piece_if (is_fragment flags) piece) + check_count kind
     → array_head items ++ uint 7 ++ uint flags ++ uint (check_type kind) ≡ primaries.front (primary_of flags kind nodes times piece)
 unfolding primaries.front
 front_is items flags kind nodes times piece count = rw count refl
 
-nodes_are : (flags : ℕ) (kind : CheckKind) (nodes : Nodes) (times : Times) (piece : Piece)
+pub nodes_are : (flags : ℕ) (kind : CheckKind) (nodes : Nodes) (times : Times) (piece : Piece)
     → ids.spelling nodes.destination ++ ids.spelling nodes.source ++ ids.spelling nodes.report_to ≡ primaries.nodes (primary_of flags kind nodes times piece)
 unfolding primaries.nodes
 nodes_are flags kind nodes times piece = refl
 
-times_are : (flags : ℕ) (kind : CheckKind) (nodes : Nodes) (times : Times) (piece : Piece)
+pub times_are : (flags : ℕ) (kind : CheckKind) (nodes : Nodes) (times : Times) (piece : Piece)
     → array_head 2 ++ uint times.created ++ uint times.sequence ++ uint times.lifetime ≡ primaries.times (primary_of flags kind nodes times piece)
 unfolding primaries.times
 times_are flags kind nodes times piece = refl
@@ -328,7 +328,7 @@ front_means laws cursor items version flags kind fits ei ev ef ek =
       count = count ∙ ap (λ (n : ℕ). 8 + cond (is_fragment flags.0) 2 0 + n) (sym rk.count);
     }
 
-fields_means : (laws : Laws) (cursor : Cursor) (x : Primary × Cursor) → IsBytes cursor.rest → fields_at cursor ≡ Ok x → ReadsFields cursor x.0 x.1
+pub fields_means : (laws : Laws) (cursor : Cursor) (x : Primary × Cursor) → IsBytes cursor.rest → fields_at cursor ≡ Ok x → ReadsFields cursor x.0 x.1
 unfolding fields_at
 fields_means laws cursor x fits e =
     let i = bind_ok (argument_at [] tokens.PrimaryArray cursor) _ x e in
