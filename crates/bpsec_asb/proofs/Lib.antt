@@ -12,6 +12,7 @@ pub mod Held
 pub mod KnownSet
 pub mod Ordered
 pub mod KnownList
+pub mod CoveredTest
 pub mod Growing
 pub mod Stays
 pub mod Fresh

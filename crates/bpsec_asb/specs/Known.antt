@@ -1,5 +1,5 @@
 -- The known operations as a list.
-use Rattle.std.specs.Prelude.{ℕ, not, ◌==◌, if◌then◌else◌, List, [], ◌++◌, map, filter, fold, All, Result, Ok, Err}
+use Rattle.std.specs.Prelude.{ℕ, Bool, true, false, not, ◌==◌, ◌&&◌, if◌then◌else◌, List, [], ◌++◌, map, filter, fold, All, Result, Ok, Err}
 use Rattle.std.specs.List.{flat_map, list_any}
 use Rattle.std.specs.BTreeSet.{insert_key}
 use Rattle.cbor_profile.specs.declared.fault.Fault.{Fault}
@@ -48,3 +48,16 @@ untargeted ops blocks = filter (λ block. not (list_any (λ op. op.target == blo
 -- The known operations, in order: all bcb operations, and the bib operations of the blocks that none of these targets.
 abbrev pub known : List Block → List OpId
 known blocks = in_order (ciphers blocks ++ flat_map (held_by Bib) (untargeted (ciphers blocks) blocks))
+
+-- ---- covered blocks
+
+abbrev pub is_bcb : Service → Bool
+is_bcb Bib = false
+is_bcb Bcb = true
+
+-- A bcb operation of the list covers the block of this number: a canonical block of another type than 12 (RFC 9172, section
+-- 3.8).
+abbrev pub is_covered : List Block → List OpId → ℕ → Bool
+is_covered blocks ops number =
+    list_any (λ op. is_bcb op.service && op.target == number) ops
+    && list_any (λ block. block.number == number && not (block.kind == 12)) blocks

@@ -1,6 +1,6 @@
 //! Laws over the definitions of this crate. Each is the contract of a function that does nothing.
 
-ghost use Rattle.std.specs.Prelude.{◌≡◌, ◌≢◌, ◌↔◌, ◌⊎◌, ◌<◌, ◌∷◌, [], ◌++◌, ℕ, List, Ok, Err};
+ghost use Rattle.std.specs.Prelude.{◌≡◌, ◌≢◌, ◌↔◌, ◌⊎◌, ◌<◌, ◌∷◌, [], ◌++◌, ℕ, List, true, Ok, Err};
 ghost use Rattle.std.specs.Prelude.{All, Contains, length, slice_index};
 ghost use Rattle.std.specs.List.Sorted.{IsStrictlySortedBy};
 ghost use Rattle.cbor_profile.specs.declared.fault.Fault.{Fault};
@@ -14,7 +14,7 @@ ghost use Rattle.bpsec_asb.specs.Prefix.{IsSpelling};
 ghost use Rattle.bpsec_asb.specs.Operations.{NumbersAreDistinct, BodiesAreBytes, IsOperationOf, IsCovered};
 ghost use Rattle.bpsec_asb.specs.Operations.{IsVisible, IsHidden, IsKnown};
 ghost use Rattle.bpsec_asb.specs.Order.{op_cmp};
-ghost use Rattle.bpsec_asb.specs.Known.{known};
+ghost use Rattle.bpsec_asb.specs.Known.{known, is_covered};
 ghost use Rattle.bpsec_asb.specs.declared.asb.Asb.{Asb};
 ghost use Rattle.bpsec_asb.specs.declared.operation.OpId.{OpId};
 ghost use Rattle.bpsec_asb.specs.declared.operation.Service.TheVariants.{Bcb};
@@ -54,6 +54,12 @@ pub fn block_confidentiality_blocks_are_never_covered()
 /// Where no operation is undone, the hidden blocks are the covered ones.
 pub fn covered_blocks_are_hidden_at_first()
     ensures { (blocks : List Block) (number : ℕ) → IsHidden [] blocks number ↔ IsCovered blocks number }
+{}
+
+/// A block is covered, as tested over the list of known operations, exactly where an operation covers it.
+pub fn covered_blocks_are_covered()
+    ensures { (blocks : List Block) (number : ℕ) → NumbersAreDistinct blocks → BodiesAreBytes blocks
+        → ((is_covered blocks (known blocks) number ≡ true) ↔ IsCovered blocks number) }
 {}
 
 /// The list of known operations has each of them once, in order, and no other. No other list does.

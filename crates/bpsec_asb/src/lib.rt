@@ -3,6 +3,7 @@
 #![tactic(auto)]
 
 mod asb;
+mod covered;
 mod known;
 pub mod laws;
 mod operation;
@@ -13,6 +14,7 @@ mod target;
 mod writing;
 
 pub use asb::{Asb, Pair};
+pub use covered::is_covered;
 pub use known::operations;
 pub use operation::{OpId, Service};
 

@@ -15,7 +15,7 @@ use Rattle.bpsec_asb.specs.declared.operation.Service.{Service}
 use Rattle.bpsec_asb.specs.declared.operation.Service.TheVariants.{Bib, Bcb}
 use Rattle.bpsec_asb.specs.declared.operation.OpId.{OpId}
 use Rattle.bpsec_asb.specs.Reading.{read_body}
-use Rattle.bpsec_asb.specs.Known.{known}
+use Rattle.bpsec_asb.specs.Known.{known, is_covered}
 use Rattle.bpsec_explain.specs.Texts.{newline, number, signed, flags_item, service_name, fault_line}
 use Rattle.bpsec_explain.specs.Bodies.{previous_node_line, age_line, hops_line}
 use Rattle.bpsec_explain.specs.Covers.{covers, parameters_of}
@@ -42,14 +42,6 @@ unfoldable pub block_line : Block → List ℕ
 block_line block =
     number (codes "block ") block.number ++ (number (codes " type=") block.kind ++ (flags_item block.flags
     ++ (number (codes " check=") (check_type block.crc) ++ (number (codes " length=") (length block.body) ++ newline))))
-
--- a known bcb operation covers the block
-abbrev pub is_bcb : Service → Bool
-is_bcb Bib = false
-is_bcb Bcb = true
-
-abbrev pub is_covered : List OpId → Block → Bool
-is_covered ops block = not (block.kind == 12) && list_any (λ op. is_bcb op.service && op.target == block.number) ops
 
 -- ---- security blocks (RFC 9172, section 3.6)
 
@@ -95,7 +87,7 @@ body_lines bundle block =
     else []
 
 unfoldable pub block_lines : Contents → List OpId → Block → List ℕ
-block_lines bundle ops block = block_line block ++ (if is_covered ops block then hidden_lines block.kind else body_lines bundle block)
+block_lines bundle ops block = block_line block ++ (if is_covered bundle.blocks ops block.number then hidden_lines block.kind else body_lines bundle block)
 
 -- ---- notes
 

@@ -1,15 +1,14 @@
 //! The lines of canonical blocks.
 
-ghost use Rattle.std.specs.Prelude.{◌≡◌, ◌==◌, ◌&&◌, ◌++◌, OnOk};
-ghost use Rattle.std.specs.List.{list_any};
-ghost use Rattle.bpsec_explain.specs.Lines.{block_line, is_bcb, is_covered, hidden_lines, body_lines, block_lines};
+ghost use Rattle.std.specs.Prelude.{◌≡◌, ◌++◌, OnOk};
+ghost use Rattle.bpsec_explain.specs.Lines.{block_line, hidden_lines, body_lines, block_lines};
 
 use crate::bodies::{put_age, put_hops, put_previous_node};
 use crate::security::{Source, put_security};
 use crate::text::{put_flags, put_number};
 use bp_blocks::Block;
 use bp_bundle::Bundle;
-use bpsec_asb::{OpId, Service};
+use bpsec_asb::{OpId, Service, is_covered};
 use cbor_profile::{Bytes, NoMemory};
 use std::alloc::Global;
 
@@ -23,29 +22,6 @@ fn put_block_line(alloc: Global, block: &Block, out: &mut Bytes) -> Result<(), N
     put_number(alloc, " check=", block.crc.number(), out)?;
     put_number(alloc, " length=", block.body.len() as u64, out)?;
     out.extend(b"\n")
-}
-
-fn is_bcb(service: Service) -> bool
-    ensures { result ≡ is_bcb service }
-{
-    match service {
-        Service::Bib => false,
-        Service::Bcb => true,
-    }
-}
-
-/// Whether some bcb operation has this target.
-fn is_targeted(ops: &[OpId], number: u64) -> bool
-    ensures { result ≡ list_any (λ op. is_bcb op.service && op.target == number) ops.now }
-{
-    ops.iter()
-        .any(|op| is_bcb(op.service) && op.target == number)
-}
-
-fn is_covered(ops: &[OpId], block: &Block) -> bool
-    ensures { result ≡ is_covered ops.now block.now }
-{
-    block.kind != 12 && is_targeted(ops, block.number)
 }
 
 fn put_hidden(kind: u64, out: &mut Bytes) -> Result<(), NoMemory>
@@ -93,7 +69,7 @@ pub(crate) fn put_block(
     ensures { OnOk result (out.new ≡ out.old ++ block_lines bundle.now ops.now block.now) }
 {
     put_block_line(alloc, block, out)?;
-    if is_covered(ops, block) {
+    if is_covered(bundle.blocks(), ops, block.number) {
         put_hidden(block.kind, out)
     } else {
         put_body(alloc, bundle, block, out)

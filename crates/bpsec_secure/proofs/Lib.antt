@@ -12,4 +12,3 @@ pub mod ShapeLemmas
 pub mod AnswerLemmas
 pub mod AddedLemmas
 pub mod LawLemmas
-pub mod CoveredLemmas

@@ -6,10 +6,9 @@ use Rattle.cbor_profile.specs.declared.fault.Fault.{Fault}
 use Rattle.bp_blocks.specs.declared.block.Block.{Block}
 use Rattle.bpsec_asb.specs.declared.asb.Pair.{Pair}
 use Rattle.bpsec_asb.specs.declared.asb.Asb.{Asb}
-use Rattle.bpsec_asb.specs.declared.operation.Service.{Service}
-use Rattle.bpsec_asb.specs.declared.operation.Service.TheVariants as services
 use Rattle.bpsec_asb.specs.declared.operation.OpId.{OpId}
 use Rattle.bpsec_asb.specs.Reading.{read_body}
+use Rattle.bpsec_asb.specs.Known.{is_covered}
 use Rattle.bpsec_scope.specs.Covered.{has_flag}
 use Rattle.bpsec_context.specs.Integrity as integrity
 use Rattle.bpsec_plan.specs.declared.item.Item.{Item}
@@ -19,16 +18,6 @@ use Rattle.bpsec_secure.specs.declared.bibs.ResultBib.{ResultBib}
 use Rattle.bpsec_secure.specs.Items.{is_in}
 
 -- ---- those that are there
-
-abbrev pub is_bcb : Service → Bool
-is_bcb services.Bib = false
-is_bcb services.Bcb = true
-
--- A known bcb operation covers the block of this number: a canonical block of another type than 12 (RFC 9172, section 3.8).
-abbrev pub is_covered : List Block → List OpId → ℕ → Bool
-is_covered blocks ops number =
-    list_any (λ op. is_bcb op.service && op.target == number) ops
-    && list_any (λ block. block.number == number && not (block.kind == 12)) blocks
 
 -- a block integrity block that no operation covers
 abbrev pub is_visible_bib : List Block → List OpId → Block → Bool

@@ -8,6 +8,7 @@ use Rattle.bp_primary.specs.Flags.{is_fragment}
 use Rattle.bp_blocks.specs.declared.block.Block.{Block}
 use Rattle.bpsec_asb.specs.declared.asb.Asb.{Asb}
 use Rattle.bpsec_asb.specs.Reading.{read_body}
+use Rattle.bpsec_asb.specs.Known.{is_covered}
 use Rattle.bpsec_scope.specs.Covered.{has_flag}
 use Rattle.bpsec_policy.specs.declared.ring.NamedKey.{NamedKey}
 use Rattle.bpsec_policy.specs.Ring.{key_of}
@@ -21,7 +22,7 @@ use Rattle.bpsec_secure.specs.declared.reason.PlanReason.{PlanReason}
 use Rattle.bpsec_secure.specs.declared.reason.PlanReason.TheVariants as reasons
 use Rattle.bpsec_secure.specs.declared.reason.Refusal.{Refusal}
 use Rattle.bpsec_secure.specs.Items.{block_number, block_kind, targets_of, is_cipher, service_of, same, is_in}
-use Rattle.bpsec_secure.specs.Bibs.{is_covered, is_visible_bib, shown_at, left_of}
+use Rattle.bpsec_secure.specs.Bibs.{is_visible_bib, shown_at, left_of}
 use Rattle.bpsec_secure.specs.Facts.{Facts}
 
 -- ---- numbers of blocks

@@ -5,12 +5,12 @@ ghost use Rattle.std.specs.Option.{option_copied};
 ghost use Rattle.std.specs.List.{find, list_any, flat_map};
 ghost use Rattle.bpsec_context.specs.Integrity as integrity;
 ghost use Rattle.bpsec_asb.specs.Reading.{read_body};
-ghost use Rattle.bpsec_secure.specs.Bibs.{is_bcb, is_covered, is_visible_bib, parameters_of, has_bad_parameters, is_divisible, shown_in, shown_bibs, shown_at, moves, is_moved, left_of, remaining, planned_bib, result_bibs};
+ghost use Rattle.bpsec_secure.specs.Bibs.{is_visible_bib, parameters_of, has_bad_parameters, is_divisible, shown_in, shown_bibs, shown_at, moves, is_moved, left_of, remaining, planned_bib, result_bibs};
 
 use crate::items::is_in;
 use bp_blocks::Block;
 use bp_primary::Primary;
-use bpsec_asb::{Asb, OpId, Pair, Service};
+use bpsec_asb::{Asb, OpId, Pair, is_covered};
 use bpsec_context::{Judgement, MissetReason, Suite};
 use bpsec_plan::Item;
 use bpsec_scope::{Covered, Header, TargetOf};
@@ -31,37 +31,6 @@ pub(crate) struct ShownBib {
 pub(crate) struct ResultBib {
     pub(crate) number: u64,
     pub(crate) targets: List<u64>,
-}
-
-fn is_bcb(service: Service) -> bool
-    ensures { result ≡ is_bcb service }
-{
-    match service {
-        Service::Bib => false,
-        Service::Bcb => true,
-    }
-}
-
-fn is_targeted(ops: &[OpId], number: u64) -> bool
-    ensures { result ≡ list_any (λ op. is_bcb op.service && op.target == number) ops.now }
-{
-    ops.iter()
-        .any(|op| is_bcb(op.service) && op.target == number)
-}
-
-fn is_sealable(blocks: &[Block], number: u64) -> bool
-    ensures { result ≡ list_any (λ block. block.number == number && not (block.kind == 12)) blocks.now }
-{
-    blocks
-        .iter()
-        .any(|block| block.number == number && block.kind != 12)
-}
-
-/// Whether a known operation covers the block of this number.
-pub(crate) fn is_covered(blocks: &[Block], ops: &[OpId], number: u64) -> bool
-    ensures { result ≡ is_covered blocks.now ops.now number }
-{
-    is_targeted(ops, number) && is_sealable(blocks, number)
 }
 
 /// Whether it is a block integrity block that no operation covers.

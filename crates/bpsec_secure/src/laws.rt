@@ -1,26 +1,19 @@
 //! Laws over the definitions of this crate. Each is the contract of a function that does nothing.
 
-ghost use Rattle.std.specs.Prelude.{◌≡◌, ◌≤◌, ◌<◌, ◌↔◌, ℕ, Bool, true, false, [], None, Some, List, map, take, length, slice_index_or};
+ghost use Rattle.std.specs.Prelude.{◌≡◌, ◌≤◌, ◌<◌, ℕ, Bool, true, false, [], None, Some, List, map, take, length, slice_index_or};
 ghost use Rattle.std.specs.List.{list_any};
 ghost use Rattle.cbor_profile.specs.declared.TheConstants.{BUNDLE_LIMIT};
 ghost use Rattle.bp_blocks.specs.declared.block.Block.{Block};
 ghost use Rattle.bp_bundle.specs.Shape.{Contents};
 ghost use Rattle.bp_bundle.specs.Spelling.{spelling};
-ghost use Rattle.bpsec_asb.specs.Operations.{NumbersAreDistinct, BodiesAreBytes, IsCovered};
-ghost use Rattle.bpsec_asb.specs.Known.{known};
 ghost use Rattle.bpsec_policy.specs.declared.ring.NamedKey.{NamedKey};
 ghost use Rattle.bpsec_plan.specs.declared.item.Item.{Item};
 ghost use Rattle.bpsec_secure.specs.Items.{block_number, is_cipher, is_target};
 ghost use Rattle.bpsec_secure.specs.Laws.{is_split};
-ghost use Rattle.bpsec_secure.specs.Bibs.{is_covered};
 ghost use Rattle.bpsec_secure.specs.Facts.{Facts, facts_of};
 ghost use Rattle.bpsec_secure.specs.Refusal.{first_at};
 ghost use Rattle.bpsec_secure.specs.Secured.{splits_from, kept, added, before_last};
 ghost use Rattle.bpsec_secure.specs.Answer.{refusal, secured_bundle};
-
-use bpsec_asb::laws::{
-    block_confidentiality_blocks_are_never_covered, known_operations_are_listed_once_in_order,
-};
 
 /// A block that no item names stays as it is.
 pub fn unnamed_blocks_stay()
@@ -60,12 +53,3 @@ pub fn the_least_index_of_an_item()
     ensures none { (holds : List Item → Item → Bool) (items : List Item) → first_at holds [] items ≡ None
         → (k : ℕ) (d : Item) → k < length items → holds (take k items) (slice_index_or items k d) ≡ false }
 {}
-
-/// A block is covered, as securing tests it, exactly where an operation covers it.
-pub fn covered_blocks_are_covered()
-    ensures { (blocks : List Block) (number : ℕ) → NumbersAreDistinct blocks → BodiesAreBytes blocks
-        → ((is_covered blocks (known blocks) number ≡ true) ↔ IsCovered blocks number) }
-{
-    known_operations_are_listed_once_in_order();
-    block_confidentiality_blocks_are_never_covered();
-}

@@ -4,15 +4,14 @@ ghost use Rattle.std.specs.Prelude.{◌≡◌, ◌==◌, ◌&&◌, ◌||◌, not
 ghost use Rattle.std.specs.Option.{option_copied};
 ghost use Rattle.std.specs.List.{find, list_any};
 ghost use Rattle.bpsec_secure.specs.Items.{block_number, targets_of, service_of, same, is_in};
-ghost use Rattle.bpsec_secure.specs.Bibs.{is_covered};
+ghost use Rattle.bpsec_asb.specs.Known.{is_covered};
 ghost use Rattle.bpsec_secure.specs.View.{facts};
 ghost use Rattle.bpsec_secure.specs.Refusal.{block_at, has_block, item_at, has_item, is_there, no_target, kind_at, forbids, target_forbidden, is_taken, already_there, under_cipher, number_taken, is_security, primary_covered};
 
-use crate::bibs::is_covered;
 use crate::case::Case;
 use crate::items::{block_kind, block_number, is_cipher, is_in, same, service_of, targets_of};
 use bp_blocks::Block;
-use bpsec_asb::{OpId, Service};
+use bpsec_asb::{OpId, Service, is_covered};
 use bpsec_plan::Item;
 
 /// The block of this number.

@@ -9,8 +9,7 @@ use Rattle.bpsec_asb.specs.declared.operation.Service.{Service}
 use Rattle.bpsec_asb.specs.declared.operation.Service.TheVariants.{Bib, Bcb}
 use Rattle.bpsec_asb.specs.declared.operation.OpId.{OpId}
 use Rattle.bpsec_asb.specs.Operations.{IsOperationOf, IsCovered, IsKnown}
-use Rattle.bpsec_asb.specs.Known.{known}
-use Rattle.bpsec_secure.specs.Bibs.{is_bcb, is_covered}
+use Rattle.bpsec_asb.specs.Known.{known, is_bcb, is_covered}
 
 seals : ℕ → OpId → Bool
 seals number op = is_bcb op.service && op.target == number
