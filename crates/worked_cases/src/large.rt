@@ -125,3 +125,82 @@ fn the_largest_bundle_is_not_secured(rt: HostRuntime) -> Result<(), Fail> {
     assert_eq!(rt; made.out.as_slice(), b"".as_slice());
     Ok(())
 }
+
+const POLICY: &str =
+    r#"{"version":1,"node":"ipn:9.1","broken":"keep","default":{"role":"none","failed":"keep","misset":"keep"},"rules":[{"name":"rb","service":"bib","role":"acceptor","key":"h","failed":"keep","misset":"keep"},{"name":"rc","service":"bcb","role":"acceptor","key":"c","failed":"keep","misset":"keep"}],"required":[]}"#;
+
+/// What remains of the ordinary bundle before its payload: its primary and its payload block have no check any more.
+const ACCEPTED: &[u8] =
+    b"\x9f\x88\x07\x00\x00\x82\x01k//earth/ops\x82\x01p//probe-7/imager\x82\x01\x00\x82\x1b\x00\x00\x00\xbaC\xb7@\x00\x01\x1a\x05&\\\x00\x85\n\x02\x00\x00D\x82\x18\x1e\x00\x85\x06\x03\x00\x00E\x82\x02\x82\x03\x00\x85\x01\x01\x00\x00Z\x00-\xc6\xc0";
+
+const ACCEPTED_LINES: &[u8] =
+    b"order bib 5 0 passed\norder bcb 7 1 passed\norder bcb 7 6 passed\norder bib 6 1 passed\nevent 0 bib 5 passed rb keep\nevent 1 bib 6 passed rb keep\nevent 1 bcb 7 passed rc keep\nevent 6 bcb 7 passed rc keep\nresult done bytes=3000089 blocks=3\n";
+
+fn accept(alloc: Global, input: &[u8]) -> Result<Made, Fail> {
+    let words = [
+        "node", "--policy", "policy", "--keys", "ring", "--order", "0",
+    ];
+    let files = over_files(
+        &words,
+        text_file("policy", POLICY),
+        text_file("ring", RING),
+        input,
+    );
+    let large = Given {
+        most: 1_000_000,
+        room: ROOM,
+        ..files
+    };
+    Ok(run_on(alloc, &large)?)
+}
+
+#[test]
+fn an_ordinary_bundle_is_accepted(rt: HostRuntime) -> Result<(), Fail> {
+    let alloc = rt.alloc();
+    let secured = secure(alloc, PLAN, ordinary(alloc)?.as_slice())?;
+    let made = accept(alloc, secured.out.as_slice())?;
+    assert_eq!(rt; made.report.as_slice(), ACCEPTED_LINES);
+    assert_eq!(rt; made.out.as_slice().len(), 3_000_089);
+    let payload = made
+        .out
+        .as_slice()
+        .strip_prefix(ACCEPTED)
+        .ok_or("the front")?;
+    let (end, sevens) = payload.split_last().ok_or("the end")?;
+    assert!(rt; sevens.iter().all(|byte| *byte == 7));
+    assert_eq!(rt; *end, 0xff);
+    Ok(())
+}
+
+/// The fragments from the last to the first. Each is as long as the others, but for the head of the first one's offset, which
+/// has 4 bytes less, and the last one's payload, which has 40 bytes less and a head of 2 bytes less.
+fn reversed(alloc: Global, fragments: &[u8]) -> Result<Vec<u8>, Fail> {
+    let each = fragments.len().saturating_add(46) / 256;
+    let mut reversed = Vec::new(alloc);
+    let mut end = fragments.len();
+    for index in (0..256usize).rev() {
+        let start = each.saturating_mul(index).saturating_sub(4);
+        let fragment = fragments.get(start..end).ok_or("a fragment")?;
+        reversed.extend_from_slice(fragment)?;
+        end = start;
+    }
+    Ok(reversed)
+}
+
+/// The largest bundle is cut into 256 fragments, and joined from the last to the first.
+#[test]
+fn the_largest_bundle_is_cut_and_joined(rt: HostRuntime) -> Result<(), Fail> {
+    let alloc = rt.alloc();
+    let whole = largest(alloc)?;
+    let words = ["fragment", "--size", "65536"];
+    let cut = run_words(alloc, &words, whole.as_slice())?;
+    assert!(rt; cut.report.as_slice().starts_with(b"ok pieces=256 bytes="));
+    let back = reversed(alloc, cut.out.as_slice())?;
+    let joined = run_words(alloc, &["reassemble"], back.as_slice())?;
+    assert_eq!(rt;
+        joined.report.as_slice(),
+        b"ok bytes=16777216 blocks=1\n".as_slice()
+    );
+    assert!(rt; joined.out.as_slice() == whole.as_slice());
+    Ok(())
+}

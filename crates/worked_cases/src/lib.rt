@@ -20,6 +20,8 @@ mod node;
 #[cfg(test)]
 mod nodes;
 #[cfg(test)]
+mod orders;
+#[cfg(test)]
 mod plan_refusals;
 #[cfg(test)]
 mod policies;
@@ -37,5 +39,7 @@ mod secured;
 mod shelf;
 #[cfg(test)]
 mod texts;
+#[cfg(test)]
+mod tokens;
 #[cfg(test)]
 mod upgrade;
