@@ -247,15 +247,6 @@ fn the_order_changes_nothing(rt: HostRuntime) -> Result<(), Fail> {
     Ok(())
 }
 
-/// The operations of two sealed integrity blocks and of what seals them and their target, in each of their orders.
-#[test]
-fn each_order_of_five_operations(rt: HostRuntime) -> Result<(), Fail> {
-    for order in 0..120u64 {
-        assert!(rt; comes_out(rt.alloc(), &CASES[1], &mut Digits::new(order))?);
-    }
-    Ok(())
-}
-
 /// Bundles, and what stands in the way of a session.
 static REFUSED: [(&[u8], Option<BeginFault>); 4] = [
     (FRAGMENT, Some(BeginFault::IsFragment)),

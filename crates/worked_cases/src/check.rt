@@ -1,9 +1,7 @@
 //! `check`.
 
-use crate::inputs::{CHECKED, PLAIN, bundles, first_faults};
-use crate::rows::fields_of;
+use crate::inputs::{CHECKED, Input, PLAIN, bundles, first_faults};
 use crate::runs::{Given, over_input, run_on};
-use crate::tokens::{RULES, TOKENS};
 use bpsec_command::{Reading, Status, Writing};
 use std::process::Abort;
 use std::test::Fail;
@@ -11,12 +9,8 @@ use std::test::Fail;
 const CHECK: &[&str; 1] = &["check"];
 
 /// Runs `check` on the input in pieces of at most so many bytes.
-fn expect_line(
-    rt: &(impl Abort + AllocGlobal),
-    case: (&str, &[u8], &[u8]),
-    most: usize,
-) -> Result<(), Fail> {
-    let (name, input, line) = case;
+fn expect_line(rt: &(impl Abort + AllocGlobal), case: &Input, most: usize) -> Result<(), Fail> {
+    let (name, input, line) = *case;
     let made = run_on(rt.alloc(), &over_input(CHECK, input, most))?;
     let (code, out, report) = if line.starts_with(b"ok") {
         (0, line, b"".as_slice())
@@ -32,9 +26,8 @@ fn expect_line(
 #[test]
 fn bundles_are_counted(rt: HostRuntime) -> Result<(), Fail> {
     for case in &bundles() {
-        for most in [1, 7, 4096] {
-            expect_line(&rt, *case, most)?;
-        }
+        expect_line(&rt, case, 4096)?;
+        expect_line(&rt, case, 1)?;
     }
     Ok(())
 }
@@ -42,33 +35,8 @@ fn bundles_are_counted(rt: HostRuntime) -> Result<(), Fail> {
 #[test]
 fn others_are_refused_at_their_first_fault(rt: HostRuntime) -> Result<(), Fail> {
     for case in &first_faults() {
-        for most in [1, 7, 4096] {
-            expect_line(&rt, *case, most)?;
-        }
-    }
-    Ok(())
-}
-
-/// A line of a table of tokens, in pieces of 1 and of 7 bytes and whole.
-fn expect_fault(rt: &(impl Abort + AllocGlobal), line: &str) -> Result<(), Fail> {
-    let alloc = rt.alloc();
-    let row = fields_of(line)?;
-    let count: usize = row.old.parse()?;
-    let mut input = Vec::from_slice(alloc, PLAIN.get(..count).ok_or("a front")?)?;
-    input.extend_from_slice(hex::decode(alloc, row.new)?.as_slice())?;
-    let report = format!(in alloc; "{}\n", row.line)?;
-    for most in [1, 7, 4096] {
-        expect_line(rt, (row.name, input.as_slice(), report.as_bytes()), most)?;
-    }
-    Ok(())
-}
-
-#[test]
-fn tokens_are_refused_by_the_first_rule(rt: HostRuntime) -> Result<(), Fail> {
-    for table in [RULES, TOKENS] {
-        for line in table.lines() {
-            expect_fault(&rt, line)?;
-        }
+        expect_line(&rt, case, 4096)?;
+        expect_line(&rt, case, 1)?;
     }
     Ok(())
 }

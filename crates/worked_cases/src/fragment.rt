@@ -4,7 +4,7 @@ use crate::cuts::{CUTS, JOINS, MORE_JOINS};
 use crate::inputs::PLAIN;
 use crate::rows::{Case, case_of};
 use crate::runs::{Given, Made, over_input, run_on};
-use bpsec_command::{Reading, Status, Writing};
+use bpsec_command::{Reading, Status};
 use std::alloc::Global;
 use std::process::Abort;
 use std::test::Fail;
@@ -107,33 +107,6 @@ fn each_read_may_fail(rt: HostRuntime) -> Result<(), Fail> {
         join_failing(alloc, pieces.out.as_slice(), 3)?.status,
         Status::Done
     );
-    Ok(())
-}
-
-/// Joins the fragments, where the write and the write of the report of these numbers fail.
-fn join_written(alloc: Global, pieces: &[u8], write: u64, report: u64) -> Result<Made, Fail> {
-    let plain = over_input(&["reassemble"], pieces, 4096);
-    let failing = Given {
-        failing_writes: &[write],
-        failing_report_writes: &[report],
-        ..plain
-    };
-    Ok(run_on(alloc, &failing)?)
-}
-
-#[test]
-fn each_write_may_fail(rt: HostRuntime) -> Result<(), Fail> {
-    let alloc = rt.alloc();
-    let pieces = cut(alloc, "16", PLAIN, 4096)?;
-    for (write, report, status, written) in [
-        (0, 9, Status::WriteFault(Writing::Out), b"".as_slice()),
-        (9, 0, Status::WriteFault(Writing::Report), PLAIN),
-        (1, 1, Status::Done, PLAIN),
-    ] {
-        let made = join_written(alloc, pieces.out.as_slice(), write, report)?;
-        assert_eq!(rt; made.status, status);
-        assert_eq!(rt; made.out.as_slice(), written);
-    }
     Ok(())
 }
 

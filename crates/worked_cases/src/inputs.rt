@@ -45,7 +45,7 @@ pub fn bundles() -> [Input; 7] {
 }
 
 /// Inputs that are no bundle, each with its first fault.
-pub fn first_faults() -> [Input; 35] {
+pub fn first_faults() -> [Input; 34] {
     [
         (
             "no bytes",
@@ -71,11 +71,6 @@ pub fn first_faults() -> [Input; 35] {
             "a byte more",
             b"\x9f\x88\x07\x00\x00\x82\x02\x82\x01\x02\x82\x02\x82\x02\x01\x82\x02\x82\x02\x01\x82\x00\x18(\x1a\x00\x0fB@\x85\x01\x01\x00\x00X#Ready to generate a 32-byte payload\xff\x00",
             b"refused bundle place=72 reason=Trailing\x0a",
-        ),
-        (
-            "a body of one byte too many",
-            b"\x9f\x88\x07\x00\x00\x82\x02\x82\x01\x02\x82\x02\x82\x02\x01\x82\x02\x82\x02\x01\x82\x00\x18(\x1a\x00\x0fB@\x85\x01\x01\x00\x00Z\x00\xff\xff\xd9",
-            b"refused bundle place=34 reason=TooLong\x0a",
         ),
         (
             "a body past the limit",

@@ -20,8 +20,6 @@ mod node;
 #[cfg(test)]
 mod nodes;
 #[cfg(test)]
-mod orders;
-#[cfg(test)]
 mod plan_refusals;
 #[cfg(test)]
 mod policies;
@@ -39,7 +37,5 @@ mod secured;
 mod shelf;
 #[cfg(test)]
 mod texts;
-#[cfg(test)]
-mod tokens;
 #[cfg(test)]
 mod upgrade;

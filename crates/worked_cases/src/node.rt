@@ -3,8 +3,7 @@
 use crate::nodes::{ACTIONS, EXAMPLES, JUDGED, NODES, ORDERS};
 use crate::rings::{EXAMPLES as EXAMPLE_KEYS, LENGTHS, RING};
 use crate::rows::{Case, case_of};
-use crate::runs::{Given, Made, over_files, run_on, text_file};
-use bpsec_command::{Reading, Status, Writing};
+use crate::runs::{over_files, run_on, text_file};
 use cbor_profile::{Bytes, NoMemory};
 use std::alloc::Global;
 use std::process::Abort;
@@ -28,106 +27,35 @@ fn lines_of(alloc: Global, line: &str) -> Result<Bytes, NoMemory> {
     Ok(lines)
 }
 
-/// How the input comes, and the calls of the devices that fail.
-#[derive(Clone, Copy)]
-struct Devices {
-    most: usize,
-    fetch: u64,
-    read: u64,
-    write: u64,
-    report: u64,
-}
-
-/// Nothing fails.
-const STEADY: Devices = Devices {
-    most: 4096,
-    fetch: 9,
-    read: 9_999,
-    write: 9,
-    report: 9,
-};
-
-/// A run with this policy and ring over such devices.
-fn run_node(
-    alloc: Global,
-    policy: &str,
-    ring: &str,
-    order: &str,
-    input: &[u8],
-    devices: Devices,
-) -> Result<Made, Fail> {
-    let words = [
-        "node",
-        "--policy",
-        "policy.json",
-        "--keys",
-        "ring.json",
-        "--order",
-        order,
-    ];
-    let files = over_files(
-        &words,
-        text_file("policy.json", policy),
-        text_file("ring.json", ring),
-        input,
-    );
-    let given = Given {
-        most: devices.most,
-        failing_fetches: &[devices.fetch],
-        failing_reads: &[devices.read],
-        failing_writes: &[devices.write],
-        failing_report_writes: &[devices.report],
-        ..files
-    };
-    Ok(run_on(alloc, &given)?)
-}
-
-/// A case, and what it expects.
-#[derive(Drop)]
-struct Expected<'a> {
-    case: Case<'a>,
-    ring: &'static str,
-    order: &'a str,
-    code: u8,
-    input: Vec<u8>,
-    out: Vec<u8>,
-    lines: Bytes,
-}
-
-fn taken_apart(alloc: Global, line: &str) -> Result<Expected<'_>, Fail> {
-    let case = case_of(line)?;
+fn expect(rt: &(impl Abort + AllocGlobal), case: Case) -> Result<(), Fail> {
+    let alloc = rt.alloc();
+    let name = case.name;
     let (ring, rest) = case.second.split_once(" ").ok_or("a ring")?;
     let (order, code) = rest.split_once(" ").ok_or("an order")?;
-    Ok(Expected {
-        case,
-        ring: ring_of(ring),
-        order,
-        code: code.parse()?,
-        input: hex::decode(alloc, case.input)?,
-        out: hex::decode(alloc, case.out)?,
-        lines: lines_of(alloc, case.line)?,
-    })
-}
-
-/// A run of a case over such devices.
-fn run_case(alloc: Global, expected: &Expected, devices: Devices) -> Result<Made, Fail> {
-    run_node(
+    let input = hex::decode(alloc, case.input)?;
+    let out = hex::decode(alloc, case.out)?;
+    let lines = lines_of(alloc, case.line)?;
+    let made = run_on(
         alloc,
-        expected.case.first,
-        expected.ring,
-        expected.order,
-        expected.input.as_slice(),
-        devices,
-    )
-}
-
-fn expect(rt: &(impl Abort + AllocGlobal), line: &str, most: usize) -> Result<(), Fail> {
-    let expected = taken_apart(rt.alloc(), line)?;
-    let name = expected.case.name;
-    let made = run_case(rt.alloc(), &expected, Devices { most, ..STEADY })?;
-    assert_eq!(rt; made.report.as_slice(), expected.lines.as_slice(), "{name}");
-    assert_eq!(rt; made.out.as_slice(), expected.out.as_slice(), "{name}");
-    assert_eq!(rt; made.status.code(), expected.code, "{name}");
+        &over_files(
+            &[
+                "node",
+                "--policy",
+                "policy.json",
+                "--keys",
+                "ring.json",
+                "--order",
+                order,
+            ],
+            text_file("policy.json", case.first),
+            text_file("ring.json", ring_of(ring)),
+            input.as_slice(),
+        ),
+    )?;
+    assert_eq!(rt; made.report.as_slice(), lines.as_slice(), "{name}");
+    assert_eq!(rt; made.out.as_slice(), out.as_slice(), "{name}");
+    let code: u8 = code.parse()?;
+    assert_eq!(rt; made.status.code(), code, "{name}");
     Ok(())
 }
 
@@ -135,112 +63,8 @@ fn expect(rt: &(impl Abort + AllocGlobal), line: &str, most: usize) -> Result<()
 fn bundles_at_a_node(rt: HostRuntime) -> Result<(), Fail> {
     for table in [EXAMPLES, ORDERS, NODES, ACTIONS, JUDGED] {
         for line in table.lines() {
-            expect(&rt, line, 4096)?;
+            expect(&rt, case_of(line)?)?;
         }
     }
-    Ok(())
-}
-
-#[test]
-fn bundles_in_pieces_of_one_byte(rt: HostRuntime) -> Result<(), Fail> {
-    for table in [EXAMPLES, NODES] {
-        for line in table.lines() {
-            expect(&rt, line, 1)?;
-        }
-    }
-    Ok(())
-}
-
-/// The run of a case where one call fails ends with this status. What it then wrote is all that the case writes, or nothing.
-fn expect_fault(
-    rt: &(impl Abort + AllocGlobal),
-    expected: &Expected,
-    devices: Devices,
-    status: Status,
-    is_written: bool,
-) -> Result<(), Fail> {
-    let made = run_case(rt.alloc(), expected, devices)?;
-    let name = expected.case.name;
-    assert_eq!(rt; made.status, status, "{name}");
-    let out = if is_written {
-        expected.out.as_slice()
-    } else {
-        b"".as_slice()
-    };
-    assert_eq!(rt; made.out.as_slice(), out, "{name}");
-    Ok(())
-}
-
-/// Each read of 100 bytes may fail, and the one that finds the end.
-fn expect_read_faults(rt: &(impl Abort + AllocGlobal), expected: &Expected) -> Result<(), Fail> {
-    let input = Status::ReadFault(Reading::Input);
-    let some = Devices {
-        most: 100,
-        ..STEADY
-    };
-    let reads = expected.input.len().div_ceil(100) as u64;
-    for read in 0..=reads {
-        expect_fault(rt, expected, Devices { read, ..some }, input, false)?;
-    }
-    let after = Devices {
-        read: reads.saturating_add(1),
-        ..some
-    };
-    expect_fault(rt, expected, after, Status::Done, true)
-}
-
-#[test]
-fn each_device_may_fail(rt: HostRuntime) -> Result<(), Fail> {
-    let shelf = Status::ReadFault(Reading::Shelf);
-    let out = Status::WriteFault(Writing::Out);
-    let report = Status::WriteFault(Writing::Report);
-    for line in EXAMPLES.lines() {
-        let expected = taken_apart(rt.alloc(), line)?;
-        expect_fault(&rt, &expected, Devices { fetch: 0, ..STEADY }, shelf, false)?;
-        expect_fault(&rt, &expected, Devices { fetch: 1, ..STEADY }, shelf, false)?;
-        expect_read_faults(&rt, &expected)?;
-        expect_fault(&rt, &expected, Devices { write: 0, ..STEADY }, out, false)?;
-        expect_fault(
-            &rt,
-            &expected,
-            Devices {
-                report: 0,
-                ..STEADY
-            },
-            report,
-            true,
-        )?;
-    }
-    Ok(())
-}
-
-/// A refused policy leaves ring and input alone, and a refused ring the input.
-#[test]
-fn texts_are_read_in_their_order(rt: HostRuntime) -> Result<(), Fail> {
-    let alloc = rt.alloc();
-    let policy =
-        r#"{"version":1,"node":"ipn:9.1","broken":"keep","default":{"role":"none","failed":"keep","misset":"keep"},"rules":[],"required":[]}"#;
-    let unread = Devices {
-        fetch: 1,
-        read: 0,
-        ..STEADY
-    };
-    let made = run_node(alloc, "[", "[", "0", b"", unread)?;
-    assert_eq!(rt; made.status.code(), 4);
-    assert_eq!(rt;
-        made.report.as_slice(),
-        b"refused policy entry=- reason=NotJson\n".as_slice()
-    );
-    let made = run_node(alloc, policy, "[", "0", b"", Devices { fetch: 2, ..unread })?;
-    assert_eq!(rt; made.status.code(), 5);
-    assert_eq!(rt;
-        made.report.as_slice(),
-        b"refused keys entry=- reason=NotJson\n".as_slice()
-    );
-    let made = run_node(alloc, policy, RING, "0", b"", STEADY)?;
-    assert_eq!(rt;
-        made.report.as_slice(),
-        b"refused bundle place=0 reason=Truncated\n".as_slice()
-    );
     Ok(())
 }

@@ -6,7 +6,7 @@ use crate::rings::{EXAMPLES as EXAMPLE_KEYS, LENGTHS, RING};
 use crate::rows::{Case, case_of};
 use crate::runs::{Given, Made, over_files, run_on, text_file};
 use crate::secured::{EXAMPLES, SECURED, SPLIT};
-use bpsec_command::{Reading, Status, Writing};
+use bpsec_command::{Reading, Status};
 use std::alloc::Global;
 use std::process::Abort;
 use std::test::Fail;
@@ -128,36 +128,6 @@ fn devices_may_fail(rt: HostRuntime) -> Result<(), Fail> {
     }
     let made = secure(rt.alloc(), "[", RING, PLAIN, 1, 0)?;
     assert_eq!(rt; made.status.code(), 6);
-    Ok(())
-}
-
-/// Secures the plain bundle, where the write and the write of the report of these numbers fail.
-fn secure_written(alloc: Global, write: u64, report: u64) -> Result<Made, Fail> {
-    let plain = over_files(
-        SECURE,
-        text_file("plan.json", PLAN),
-        text_file("ring.json", RING),
-        PLAIN,
-    );
-    let failing = Given {
-        failing_writes: &[write],
-        failing_report_writes: &[report],
-        ..plain
-    };
-    Ok(run_on(alloc, &failing)?)
-}
-
-#[test]
-fn writes_may_fail(rt: HostRuntime) -> Result<(), Fail> {
-    for (write, report, status, written) in [
-        (0, 9, Status::WriteFault(Writing::Out), 0),
-        (9, 0, Status::WriteFault(Writing::Report), 165),
-        (1, 1, Status::Done, 165),
-    ] {
-        let made = secure_written(rt.alloc(), write, report)?;
-        assert_eq!(rt; made.status, status);
-        assert_eq!(rt; made.out.as_slice().len(), written);
-    }
     Ok(())
 }
 
