@@ -17,4 +17,5 @@ mod tag;
 #[cfg(test)]
 mod tests;
 
+pub use cbor_profile::Feed;
 pub use gcm::Gcm;

@@ -7,6 +7,7 @@ mod hash;
 mod hmac;
 mod sha;
 
+pub use cbor_profile::Feed;
 pub use hash::Hash;
 pub use hmac::Hmac;
 pub use sha::{Sha256, Sha384, Sha512};
