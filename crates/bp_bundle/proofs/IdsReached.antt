@@ -162,7 +162,7 @@ some_schemed : Starting IsSchemed 0
 unfolding uint
 some_schemed = (1, null_text.0, schemed 1 null_text.0 null_text.1)
 
-id_cut : (laws : TokenLaws) (bytes : List ℕ) (stop : Stop) → IsBytes bytes → reading.id_at bytes ≡ Err stop → Cut IsId bytes stop
+pub id_cut : (laws : TokenLaws) (bytes : List ℕ) (stop : Stop) → IsBytes bytes → reading.id_at bytes ≡ Err stop → Cut IsId bytes stop
 unfolding reading.id_at ids.spelling
 id_cut laws bytes stop fits e =
     pair_cut laws IsSchemed IsId bytes _ stop fits (started IsSchemed 0 some_schemed) (λ t k. (k.0, k.1, ap (λ (l : List ℕ). array_head 2 ++ l) k.2)) e

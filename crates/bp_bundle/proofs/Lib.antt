@@ -4,8 +4,8 @@ pub mod Unfaulted
 mod Changes
 pub mod CheckSizes
 pub mod Edited
-mod Arguments
-mod PrimaryMeans
+pub mod Arguments
+pub mod PrimaryMeans
 mod BlocksMeans
 mod Again
 mod Shorter
@@ -22,16 +22,16 @@ mod Taken
 mod WholeInputs
 mod InTurn
 mod Fresh
-mod Reached
-mod HeadsReached
-mod IdsReached
+pub mod Reached
+pub mod HeadsReached
+pub mod IdsReached
 mod BlockReached
 mod BlocksReached
 mod PartsReached
 mod PrimaryReached
 mod BundleReached
-mod Sealed
-mod SealedHeads
-mod SealedIds
+pub mod Sealed
+pub mod SealedHeads
+pub mod SealedIds
 mod SealedParts
 mod SealedBundle

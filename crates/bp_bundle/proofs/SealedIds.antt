@@ -31,7 +31,7 @@ pub record SealedList {A : Type 0} (read : List ℕ → Result A Stop) (bytes : 
   pub is_token : IsToken front token
   pub again : (others : List ℕ) → read (front ++ (token ++ others)) ≡ Err (record { reason = stop.reason; left = length (token ++ others) })
 
-list_behind : {A B : Type 0} (read : List ℕ → Result A Stop) (inner : List ℕ → Result B Stop) (text bytes rest : List ℕ) (stop : Stop) → bytes ≡ text ++ rest → ((t : List ℕ) (s : Stop) → inner t ≡ Err s → read (text ++ t) ≡ Err s)
+pub list_behind : {A B : Type 0} (read : List ℕ → Result A Stop) (inner : List ℕ → Result B Stop) (text bytes rest : List ℕ) (stop : Stop) → bytes ≡ text ++ rest → ((t : List ℕ) (s : Stop) → inner t ≡ Err s → read (text ++ t) ≡ Err s)
     → SealedList inner rest stop → SealedList read bytes stop
 list_behind read inner text bytes rest stop parts same s = record {
   front = text ++ s.front;
@@ -46,14 +46,14 @@ list_behind read inner text bytes rest stop parts same s = record {
 -- ---- heads
 
 -- a head that was read, and what follows it
-record Read (kinds bytes : List ℕ) (x : Head × List ℕ) : Type 0 where
-  parts : bytes ≡ spelling x.0 ++ x.1
-  fits : IsBytes x.1
-  head : IsHead x.0
-  among : list_any (λ kind. eqb kind x.0.major) kinds ≡ true
-  again : (t : List ℕ) → head_at kinds (spelling x.0 ++ t) ≡ Ok (x.0, t)
+pub record Read (kinds bytes : List ℕ) (x : Head × List ℕ) : Type 0 where
+  pub parts : bytes ≡ spelling x.0 ++ x.1
+  pub fits : IsBytes x.1
+  pub head : IsHead x.0
+  pub among : list_any (λ kind. eqb kind x.0.major) kinds ≡ true
+  pub again : (t : List ℕ) → head_at kinds (spelling x.0 ++ t) ≡ Ok (x.0, t)
 
-read_so : (laws : SealLaws) (kinds bytes : List ℕ) (x : Head × List ℕ) → IsBytes bytes → token_head kinds bytes ≡ Ok x → Read kinds bytes x
+pub read_so : (laws : SealLaws) (kinds bytes : List ℕ) (x : Head × List ℕ) → IsBytes bytes → token_head kinds bytes ≡ Ok x → Read kinds bytes x
 read_so laws kinds bytes x fits e =
     let m = laws.laws.heads.means kinds bytes x.0 x.1 fits e in
     record {
@@ -65,10 +65,10 @@ read_so laws kinds bytes x fits e =
     }
 
 -- a head, and what is made of it
-abbrev Step : {B : Type 0} → List ℕ → (List ℕ → Head × List ℕ → Result B Stop) → List ℕ → Result B Stop
+abbrev pub Step : {B : Type 0} → List ℕ → (List ℕ → Head × List ℕ → Result B Stop) → List ℕ → Result B Stop
 Step kinds f bytes = head_at kinds bytes >>= f bytes
 
-step_sealed : {B : Type 0} (laws : SealLaws) (kinds bytes : List ℕ) (f : List ℕ → Head × List ℕ → Result B Stop) (stop : Stop) → IsBytes bytes → stop.reason ≢ reasons.Truncated → Step kinds f bytes ≡ Err stop
+pub step_sealed : {B : Type 0} (laws : SealLaws) (kinds bytes : List ℕ) (f : List ℕ → Head × List ℕ → Result B Stop) (stop : Stop) → IsBytes bytes → stop.reason ≢ reasons.Truncated → Step kinds f bytes ≡ Err stop
     → ((x : Head × List ℕ) → Read kinds bytes x → f bytes x ≡ Err stop → SealedList (Step kinds f) bytes stop) → SealedList (Step kinds f) bytes stop
 step_sealed {B} laws kinds bytes f stop fits other e second = by (token_head kinds bytes) refl e
   where
@@ -88,7 +88,7 @@ step_sealed {B} laws kinds bytes f stop fits other e second = by (token_head kin
         }
 
 -- where the head itself is refused
-head_refused : {B : Type 0} (laws : SealLaws) (kinds bytes : List ℕ) (f : List ℕ → Head × List ℕ → Result B Stop) (stop : Stop) (x : Head × List ℕ) (reason : Reason) → Read kinds bytes x → stops {A = B} bytes reason ≡ Err stop
+pub head_refused : {B : Type 0} (laws : SealLaws) (kinds bytes : List ℕ) (f : List ℕ → Head × List ℕ → Result B Stop) (stop : Stop) (x : Head × List ℕ) (reason : Reason) → Read kinds bytes x → stops {A = B} bytes reason ≡ Err stop
     → ((t : List ℕ) → f (spelling x.0 ++ t) (x.0, t) ≡ stops (spelling x.0 ++ t) reason) → SealedList (Step kinds f) bytes stop
 head_refused {B} laws kinds bytes f stop x reason r e same =
     let s = stopped {A = B} bytes reason stop e in
@@ -105,41 +105,41 @@ head_refused {B} laws kinds bytes f stop x reason r e same =
     }
 
 -- where what follows the head is refused
-head_then : {B : Type 0} (kinds bytes : List ℕ) (f : List ℕ → Head × List ℕ → Result B Stop) (inner : List ℕ → Result B Stop) (stop : Stop) (x : Head × List ℕ) → Read kinds bytes x → ((t : List ℕ) → f (spelling x.0 ++ t) (x.0, t) ≡ inner t)
+pub head_then : {B : Type 0} (kinds bytes : List ℕ) (f : List ℕ → Head × List ℕ → Result B Stop) (inner : List ℕ → Result B Stop) (stop : Stop) (x : Head × List ℕ) → Read kinds bytes x → ((t : List ℕ) → f (spelling x.0 ++ t) (x.0, t) ≡ inner t)
     → SealedList inner x.1 stop → SealedList (Step kinds f) bytes stop
 head_then kinds bytes f inner stop x r same s =
     list_behind (Step kinds f) inner (spelling x.0) bytes x.1 stop r.parts (λ t own is. ap (λ (y : Result (Head × List ℕ) Stop). y >>= f (spelling x.0 ++ t)) (r.again t) ∙ (same t ∙ is)) s
 
-same_reader : {A : Type 0} (read read' : List ℕ → Result A Stop) (bytes : List ℕ) (stop : Stop) → ((b : List ℕ) → read b ≡ read' b) → SealedList read bytes stop → SealedList read' bytes stop
+pub same_reader : {A : Type 0} (read read' : List ℕ → Result A Stop) (bytes : List ℕ) (stop : Stop) → ((b : List ℕ) → read b ≡ read' b) → SealedList read bytes stop → SealedList read' bytes stop
 same_reader read read' bytes stop same s =
     record { front = s.front; token = s.token; more = s.more; parts = s.parts; left = s.left; is_token = s.is_token; again = λ others. sym (same (s.front ++ (s.token ++ others))) ∙ s.again others }
 
-either : {B : Type 0} (b : Bool) (x y : Result B Stop) (stop : Stop) (Goal : Type 0) → cond b x y ≡ Err stop → (b ≡ true → x ≡ Err stop → Goal) → (b ≡ false → y ≡ Err stop → Goal) → Goal
+pub either : {B : Type 0} (b : Bool) (x y : Result B Stop) (stop : Stop) (Goal : Type 0) → cond b x y ≡ Err stop → (b ≡ true → x ≡ Err stop → Goal) → (b ≡ false → y ≡ Err stop → Goal) → Goal
 either true x y stop Goal e f g = f refl e
 either false x y stop Goal e f g = g refl e
 
 -- ---- numbers and pairs
 
-then_assoc : {A B C : Type 0} (r : Result A Stop) (f : A → Result B Stop) (g : B → Result C Stop) → (r >>= λ x. f x >>= g) ≡ ((r >>= f) >>= g)
+pub then_assoc : {A B C : Type 0} (r : Result A Stop) (f : A → Result B Stop) (g : B → Result C Stop) → (r >>= λ x. f x >>= g) ≡ ((r >>= f) >>= g)
 then_assoc (Ok x) f g = refl
 then_assoc (Err s) f g = refl
 
-abbrev valued : Head × List ℕ → Result (ℕ × List ℕ) Stop
+abbrev pub valued : Head × List ℕ → Result (ℕ × List ℕ) Stop
 valued head = Ok (head.0.value, head.1)
 
 -- a number, and what is made of it
-number_sealed : {B : Type 0} (laws : SealLaws) (bytes : List ℕ) (f : List ℕ → ℕ × List ℕ → Result B Stop) (stop : Stop) → IsBytes bytes → stop.reason ≢ reasons.Truncated → (number_at bytes >>= f bytes) ≡ Err stop
+pub number_sealed : {B : Type 0} (laws : SealLaws) (bytes : List ℕ) (f : List ℕ → ℕ × List ℕ → Result B Stop) (stop : Stop) → IsBytes bytes → stop.reason ≢ reasons.Truncated → (number_at bytes >>= f bytes) ≡ Err stop
     → ((x : Head × List ℕ) → Read (0 ∷ []) bytes x → f bytes (x.0.value, x.1) ≡ Err stop → SealedList (Step (0 ∷ []) (λ b h. f b (h.0.value, h.1))) bytes stop) → SealedList (λ b. number_at b >>= f b) bytes stop
 unfolding number_at
 number_sealed laws bytes f stop fits other e second =
     same_reader (Step (0 ∷ []) (λ b h. f b (h.0.value, h.1))) (λ b. (head_at (0 ∷ []) b >>= valued) >>= f b) bytes stop (λ b. then_assoc (head_at (0 ∷ []) b) valued (f b))
     (step_sealed laws (0 ∷ []) bytes (λ b h. f b (h.0.value, h.1)) stop fits other (then_assoc (head_at (0 ∷ []) bytes) valued (f bytes) ∙ e) second)
 
-abbrev counted : {B : Type 0} → (List ℕ → Result B Stop) → List ℕ → Head × List ℕ → Result B Stop
+abbrev pub counted : {B : Type 0} → (List ℕ → Result B Stop) → List ℕ → Head × List ℕ → Result B Stop
 counted f bytes head = cond (eqb head.0.value 2) (Ok head.1) (stops bytes reasons.WrongCount) >>= f
 
 -- the two items of an array
-pair_sealed : {B : Type 0} (laws : SealLaws) (bytes : List ℕ) (f : List ℕ → Result B Stop) (stop : Stop) → IsBytes bytes → stop.reason ≢ reasons.Truncated → (pair_at bytes >>= f) ≡ Err stop
+pub pair_sealed : {B : Type 0} (laws : SealLaws) (bytes : List ℕ) (f : List ℕ → Result B Stop) (stop : Stop) → IsBytes bytes → stop.reason ≢ reasons.Truncated → (pair_at bytes >>= f) ≡ Err stop
     → ((rest : List ℕ) → IsBytes rest → f rest ≡ Err stop → SealedList f rest stop) → SealedList (λ b. pair_at b >>= f) bytes stop
 unfolding pair_at
 pair_sealed {B} laws bytes f stop fits other e second =
@@ -152,15 +152,15 @@ pair_sealed {B} laws bytes f stop fits other e second =
 
 -- ---- the scheme dtn
 
-abbrev with_text : List ℕ × List ℕ → Result (Eid × List ℕ) Stop
+abbrev pub with_text : List ℕ × List ℕ → Result (Eid × List ℕ) Stop
 with_text text = Ok (Dtn text.0, text.1)
 
-abbrev of_dtn : List ℕ → Head × List ℕ → Result (Eid × List ℕ) Stop
+abbrev pub of_dtn : List ℕ → Head × List ℕ → Result (Eid × List ℕ) Stop
 of_dtn bytes head =
     cond (eqb head.0.major 0) (cond (eqb head.0.value 0) (Ok (Null, head.1)) (stops bytes reasons.WrongValue)) (cond (ltb 1024 head.0.value) (stops bytes reasons.WrongValue) (content_at head.0.value head.1 >>= with_text))
 
 -- the content that is refused
-wrong_text : (len : ℕ) (rest : List ℕ) (stop : Stop) → stop.reason ≢ reasons.Truncated → (content_at len rest >>= with_text) ≡ Err stop
+pub wrong_text : (len : ℕ) (rest : List ℕ) (stop : Stop) → stop.reason ≢ reasons.Truncated → (content_at len rest >>= with_text) ≡ Err stop
     → (len ≤ length rest) × (is_dtn_text (take len rest) ≡ false) × (stop ≡ record { reason = reasons.WrongText; left = length rest })
 unfolding content_at
 wrong_text len rest stop other e = by (ltb (length rest) len) (is_dtn_text (take len rest)) refl refl e
@@ -172,13 +172,13 @@ wrong_text len rest stop other e = by (ltb (length rest) len) (is_dtn_text (take
     by false true is text e = absurd cc
     by false false is text e = (ltb-false _ _ is, text, cc)
 
-content_refused : (len : ℕ) (token others : List ℕ) → length token ≡ len → is_dtn_text token ≡ false → (content_at len (token ++ others) >>= with_text) ≡ Err (record { reason = reasons.WrongText; left = length (token ++ others) })
+pub content_refused : (len : ℕ) (token others : List ℕ) → length token ≡ len → is_dtn_text token ≡ false → (content_at len (token ++ others) >>= with_text) ≡ Err (record { reason = reasons.WrongText; left = length (token ++ others) })
 unfolding content_at
 content_refused len token others long wrong =
     let enough : ltb (length (token ++ others)) len ≡ false = le-ltb _ _ (omega (arith, length-append token others)) in
     rw (enough, take_at token others len long, wrong) refl
 
-dtn_sealed : (laws : SealLaws) (bytes : List ℕ) (stop : Stop) → IsBytes bytes → stop.reason ≢ reasons.Truncated → dtn_at bytes ≡ Err stop → SealedList dtn_at bytes stop
+pub dtn_sealed : (laws : SealLaws) (bytes : List ℕ) (stop : Stop) → IsBytes bytes → stop.reason ≢ reasons.Truncated → dtn_at bytes ≡ Err stop → SealedList dtn_at bytes stop
 unfolding dtn_at spelling
 dtn_sealed laws bytes stop fits other e =
     step_sealed laws (0 ∷ 3 ∷ []) bytes of_dtn stop fits other e
@@ -212,13 +212,13 @@ dtn_sealed laws bytes stop fits other e =
 
 -- ---- the scheme ipn, and the whole
 
-abbrev with_service : ℕ → List ℕ → ℕ × List ℕ → Result (Eid × List ℕ) Stop
+abbrev pub with_service : ℕ → List ℕ → ℕ × List ℕ → Result (Eid × List ℕ) Stop
 with_service node bytes service = Ok (Ipn node service.0, service.1)
 
-abbrev with_node : List ℕ → ℕ × List ℕ → Result (Eid × List ℕ) Stop
+abbrev pub with_node : List ℕ → ℕ × List ℕ → Result (Eid × List ℕ) Stop
 with_node bytes node = number_at node.1 >>= with_service node.0 node.1
 
-ipn_sealed : (laws : SealLaws) (bytes : List ℕ) (stop : Stop) → IsBytes bytes → stop.reason ≢ reasons.Truncated → ipn_at bytes ≡ Err stop → SealedList ipn_at bytes stop
+pub ipn_sealed : (laws : SealLaws) (bytes : List ℕ) (stop : Stop) → IsBytes bytes → stop.reason ≢ reasons.Truncated → ipn_at bytes ≡ Err stop → SealedList ipn_at bytes stop
 unfolding ipn_at
 ipn_sealed laws bytes stop fits other e =
     pair_sealed laws bytes (λ rest. number_at rest >>= with_node rest) stop fits other e
@@ -228,7 +228,7 @@ ipn_sealed laws bytes stop fits other e =
     head_then (0 ∷ []) rest (λ b y. with_node b (y.0.value, y.1)) (λ t. number_at t >>= with_service x.0.value t) stop x r (λ t. refl)
     (number_sealed laws x.1 (with_service x.0.value) stop r.fits other k (λ y s m. absurd cc))))
 
-abbrev with_scheme : List ℕ → ℕ × List ℕ → Result (Eid × List ℕ) Stop
+abbrev pub with_scheme : List ℕ → ℕ × List ℕ → Result (Eid × List ℕ) Stop
 with_scheme bytes scheme = cond (eqb scheme.0 1) (dtn_at scheme.1) (cond (eqb scheme.0 2) (ipn_at scheme.1) (stops bytes reasons.WrongValue))
 
 pub id_sealed_list : (laws : SealLaws) (bytes : List ℕ) (stop : Stop) → IsBytes bytes → stop.reason ≢ reasons.Truncated → reading.id_at bytes ≡ Err stop → SealedList reading.id_at bytes stop
