@@ -1,0 +1,7 @@
+mod Ids
+mod Stopped
+mod Heads
+mod Values
+mod Arrays
+mod Fields
+mod Blocks
