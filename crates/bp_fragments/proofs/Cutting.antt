@@ -31,7 +31,7 @@ payload_last bundle is block there =
     let last = is.payload_last block in
     is_payload_true block (subst IsPayload (get_or_from_slice_get bundle.blocks (length bundle.blocks - 1) block block there) last)
 
-kept_if : (a b c : Bool) → c ≡ true → (a || (b || c)) ≡ true
+pub kept_if : (a b c : Bool) → c ≡ true → (a || (b || c)) ≡ true
 kept_if true b c is = refl
 kept_if false true c is = refl
 kept_if false false c is = is

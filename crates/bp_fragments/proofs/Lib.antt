@@ -5,6 +5,7 @@ mod Frames
 mod Sizes
 mod Cutting
 mod FragmentSizes
+mod KeptBlocks
 mod AllFragments
 mod Same
 mod Members

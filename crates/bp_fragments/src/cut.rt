@@ -8,7 +8,6 @@ ghost use Rattle.bp_fragments.specs.Fragment.{payload, with_payload, is_replicat
 ghost use Rattle.bp_fragments.specs.Cut.{cut, cut_fault, fragment_at, fragment_flags, fragment_primary, is_kept, must_not_fragment, piece_count};
 ghost use Rattle.bp_fragments.specs.CutAnswer.{IsCutFault, IsMakeFault, refused_at_once};
 
-use crate::part::exchange_payload;
 use bp_blocks::Block;
 use bp_bundle::Bundle;
 use bp_primary::{Piece, Primary};
@@ -114,7 +113,7 @@ fn copy_kept(
     }
 }
 
-/// The blocks of the fragment with this index.
+/// Copies of the blocks that stand in the fragment with this index.
 fn copy_blocks(alloc: Global, blocks: &[Block], index: u64) -> Result<List<Block>, NoMemory>
     ensures { IfOk result (λ copies. copies ≡ filter (is_kept index) blocks.now) }
 {
@@ -126,6 +125,38 @@ fn copy_blocks(alloc: Global, blocks: &[Block], index: u64) -> Result<List<Block
         }
     }
     Ok(copies)
+}
+
+/// The block with another body. Takes no memory.
+fn with_body(block: &Block, body: Bytes) -> Block
+    ensures { result ≡ record block.now { body = body } }
+{
+    Block {
+        kind: block.kind,
+        number: block.number,
+        flags: block.flags,
+        crc: block.crc,
+        body,
+    }
+}
+
+/// The blocks of the fragment with this index and this payload. The payload block is made with it, and not copied.
+fn fragment_blocks(
+    alloc: Global,
+    bundle: &Bundle,
+    index: u64,
+    body: Bytes,
+) -> Result<List<Block>, NoMemory>
+    ensures { IfOk result (λ blocks. blocks ≡ with_payload body (filter (is_kept index) bundle.now.blocks)) }
+{
+    let _size = bundle.size();
+    let blocks = bundle.blocks();
+    let last = blocks.len() - 1;
+    let mut copies = copy_blocks(alloc, &blocks[..last], index)?;
+    match copies.push(with_body(&blocks[last], body)) {
+        Ok(()) => Ok(copies),
+        Err(_block) => Err(NoMemory),
+    }
 }
 
 /// Bundle flag 0x1 set.
@@ -184,8 +215,7 @@ fn fragment_parts(
     };
     let primary = fragment_primary(alloc, bundle.primary(), piece)?;
     let body = copy_piece(alloc, payload, offset as usize, size)?;
-    let mut blocks = copy_blocks(alloc, bundle.blocks(), index)?;
-    let _empty = exchange_payload(&mut blocks, body);
+    let blocks = fragment_blocks(alloc, bundle, index, body)?;
     Ok((primary, blocks))
 }
 

@@ -6,6 +6,9 @@ use Rattle.std.proofs.lemmas.Bool.{or_parts, ltb-false}
 use Rattle.std.proofs.lemmas.List.{append-nil, length-map, length-append}
 use Rattle.std.proofs.lemmas.List.{map-append}
 use Rattle.cbor_profile.specs.declared.TheConstants.{BUNDLE_LIMIT}
+use Rattle.bp_crc.specs.declared.kind.CheckKind.{CheckKind}
+use Rattle.bp_crc.specs.declared.kind.CheckKind.TheVariants as checks
+use Rattle.bp_primary.specs.declared.primary.Primary.{Primary}
 use Rattle.bp_blocks.specs.declared.block.Block.{Block}
 use Rattle.bp_bundle.specs.Shape.{Contents}
 use Rattle.bp_bundle.specs.Spelling.{spelling}
@@ -18,7 +21,7 @@ use Rattle.bpsec_secure.specs.Laws.{is_split}
 use Rattle.bpsec_secure.specs.Facts.{Facts, facts_of}
 use Rattle.bpsec_secure.specs.declared.reason.PlanReason.TheVariants.{TooLong}
 use Rattle.bpsec_secure.specs.Refusal.{first_at, nowhere}
-use Rattle.bpsec_secure.specs.Secured.{splits_from, seals, sealed, body_left, block_left, kept, added, before_last, secured}
+use Rattle.bpsec_secure.specs.Secured.{header_of, splits_from, seals, sealed, body_left, block_left, primary_left, kept, added, before_last, secured}
 use Rattle.bpsec_secure.specs.Answer.{or_next, refusal, secured_bundle}
 use Rattle.bpsec_secure.proofs.Passed.{here_not}
 use Rattle.bpsec_secure.proofs.ShapeLemmas.{kept_number, added_number}
@@ -53,6 +56,37 @@ unnamed_stays facts block untargeted unsplit = rw (not_sealed facts.items block.
 pub body_stays : (facts : Facts) (block : Block) → list_any is_cipher facts.items ≡ false → list_any is_split facts.items ≡ false → (kept facts block).body ≡ block.body
 unfolding kept sealed block_left body_left
 body_stays facts block no_cipher no_split = rw (none_sealed facts.items block.number no_cipher, none_split facts.items block.number no_split) refl
+
+-- ---- what a named block keeps
+
+pub kept_header : (facts : Facts) (block : Block) → header_of (kept facts block) ≡ header_of block
+unfolding kept sealed block_left
+kept_header facts block = refl
+
+pub target_unchecked : (facts : Facts) (block : Block) → is_target facts.items block.number ≡ true → (kept facts block).crc ≡ checks.None
+unfolding kept sealed block_left
+target_unchecked facts block target = rw target refl
+
+pub check_stays : (facts : Facts) (block : Block) → is_target facts.items block.number ≡ false → (kept facts block).crc ≡ block.crc
+unfolding kept sealed block_left
+check_stays facts block untargeted = rw untargeted refl
+
+none_seals : (items : List Item) (number : ℕ) → list_any (seals number) items ≡ false → find (seals number) items ≡ None
+none_seals [] number none = refl
+none_seals (item ∷ items) number none =
+    let parts = or_parts (seals number item) (list_any (seals number) items) none in rw parts.0 (none_seals items number parts.1)
+
+pub unsealed_stays : (facts : Facts) (block : Block) → list_any (seals block.number) facts.items ≡ false → list_any (splits_from block.number) facts.items ≡ false → (kept facts block).body ≡ block.body
+unfolding kept sealed block_left body_left
+unsealed_stays facts block unsealed unsplit = rw (none_seals facts.items block.number unsealed, unsplit) refl
+
+pub primary_unchecked : (bundle : Contents) (items : List Item) (ring : List NamedKey) → is_target items 0 ≡ true → (secured_bundle bundle items ring).primary ≡ record bundle.primary { crc = checks.None }
+unfolding secured_bundle secured facts_of primary_left
+primary_unchecked bundle items ring target = rw target refl
+
+pub primary_stays : (bundle : Contents) (items : List Item) (ring : List NamedKey) → is_target items 0 ≡ false → (secured_bundle bundle items ring).primary ≡ bundle.primary
+unfolding secured_bundle secured facts_of primary_left
+primary_stays bundle items ring untargeted = rw untargeted refl
 
 -- ---- numbers
 

@@ -3,6 +3,7 @@
 ghost use Rattle.std.specs.Prelude.{◌≡◌, ◌≤◌, ◌<◌, ℕ, Bool, true, false, [], None, Some, List, map, take, length, slice_index_or};
 ghost use Rattle.std.specs.List.{list_any};
 ghost use Rattle.cbor_profile.specs.declared.TheConstants.{BUNDLE_LIMIT};
+ghost use Rattle.bp_crc.specs.declared.kind.CheckKind.TheVariants as checks;
 ghost use Rattle.bp_blocks.specs.declared.block.Block.{Block};
 ghost use Rattle.bp_bundle.specs.Shape.{Contents};
 ghost use Rattle.bp_bundle.specs.Spelling.{spelling};
@@ -12,13 +13,33 @@ ghost use Rattle.bpsec_secure.specs.Items.{block_number, is_cipher, is_target};
 ghost use Rattle.bpsec_secure.specs.Laws.{is_split};
 ghost use Rattle.bpsec_secure.specs.Facts.{Facts, facts_of};
 ghost use Rattle.bpsec_secure.specs.Refusal.{first_at};
-ghost use Rattle.bpsec_secure.specs.Secured.{splits_from, kept, added, before_last};
+ghost use Rattle.bpsec_secure.specs.Secured.{header_of, seals, splits_from, kept, added, before_last};
 ghost use Rattle.bpsec_secure.specs.Answer.{refusal, secured_bundle};
 
 /// A block that no item names stays as it is.
 pub fn unnamed_blocks_stay()
     ensures { (facts : Facts) (block : Block) → is_target facts.items block.number ≡ false
         → list_any (splits_from block.number) facts.items ≡ false → kept facts block ≡ block }
+{}
+
+/// What a block keeps that items name: its number, type and flags; its check, unless it is a target, which has none then; its
+/// body, unless a bcb item seals it or a split takes results out of it.
+pub fn named_blocks_keep_what_no_step_changes()
+    ensures header { (facts : Facts) (block : Block) → header_of (kept facts block) ≡ header_of block }
+    ensures target { (facts : Facts) (block : Block) → is_target facts.items block.number ≡ true
+        → (kept facts block).crc ≡ checks.None }
+    ensures check { (facts : Facts) (block : Block) → is_target facts.items block.number ≡ false
+        → (kept facts block).crc ≡ block.crc }
+    ensures body { (facts : Facts) (block : Block) → list_any (seals block.number) facts.items ≡ false
+        → list_any (splits_from block.number) facts.items ≡ false → (kept facts block).body ≡ block.body }
+{}
+
+/// The primary block of the secured bundle is that of the bundle, without its check where an item has the target 0.
+pub fn the_primary_block_loses_its_check_as_a_target()
+    ensures target { (bundle : Contents) (items : List Item) (ring : List NamedKey) → is_target items 0 ≡ true
+        → (secured_bundle bundle items ring).primary ≡ record bundle.primary { crc = checks.None } }
+    ensures stays { (bundle : Contents) (items : List Item) (ring : List NamedKey) → is_target items 0 ≡ false
+        → (secured_bundle bundle items ring).primary ≡ bundle.primary }
 {}
 
 /// Where nothing is sealed or split, the bodies of the bundle's blocks stay.
