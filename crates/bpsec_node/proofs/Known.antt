@@ -19,9 +19,11 @@ use Rattle.bpsec_node.specs.Situation.{Situation}
 use Rattle.bpsec_node.specs.Site.{block_at}
 use Rattle.bpsec_node.specs.Plain.{may_be_covered, covers, cover, is_opened, plain}
 use Rattle.bpsec_node.specs.AllOperations.{revealed, all_operations}
+use Rattle.bpsec_node.specs.Begin.{CoveredOnce}
 use Rattle.bpsec_node.proofs.Members.{found, from_all, all_known, all_revealed}
 use Rattle.bpsec_node.proofs.Agree.{block_at_number}
 use Rattle.bpsec_node.proofs.Operations.{at_itself, none_found}
+use Rattle.bpsec_node.proofs.Sited.{cover_itself}
 
 may_be : (blocks : List Block) (number : ℕ) (at : Option Block) → block_at blocks number ≡ at → may_be_covered at ≡ true → (block : Block) × Among block blocks × (block.number ≡ number) × (block.kind ≢ 12)
 may_be blocks number None is e = absurd cc
@@ -48,6 +50,23 @@ cover_none blocks number distinct none (op, held, covered) =
     let may : may_be_covered (block_at blocks op.target) ≡ true = ap (λ n. may_be_covered (block_at blocks n)) (covered.target ∙ sym covered.number_is) ∙ (ap may_be_covered at ∙ ap not (ne_eqb covered.block.kind 12 covered.not_bcb)) in
     none_found (λ (o : OpId). eqb o.target number) (filter (λ (o : OpId). may_be_covered (block_at blocks o.target)) (ciphers blocks)) op none
     (among-filter (λ (o : OpId). may_be_covered (block_at blocks o.target)) (ciphers blocks) op there may) (eq-eqb _ _ covered.target)
+
+-- where no block is covered twice, what covers a block is the one that is found
+pub cover_only : (blocks : List Block) (number : ℕ) (op : OpId) → NumbersAreDistinct blocks → CoveredOnce blocks → IsOperationOf blocks op → Covers blocks op number → cover blocks number ≡ Some op
+cover_only blocks number op distinct once held covered = by (cover blocks number) refl
+  where
+    by : (c : Option OpId) → cover blocks number ≡ c → cover blocks number ≡ Some op
+    by None is = absurd (cover_none blocks number distinct is (op, held, covered))
+    by (Some c) is =
+        let same : c ≡ op = cover_itself blocks op c once (cipher_found blocks op held covered.service) (ap (cover blocks) covered.target ∙ is) in
+        is ∙ ap Some same
+
+pub visible_none : (blocks : List Block) (number : ℕ) → BodiesAreBytes blocks → IsVisible blocks number → cover blocks number ≡ None
+visible_none blocks number small visible = by (cover blocks number) refl
+  where
+    by : (c : Option OpId) → cover blocks number ≡ c → cover blocks number ≡ None
+    by None is = is
+    by (Some op) is = let m = cover_means blocks number op small is in absurd (visible (op, m.0, m.1))
 
 pub all_means : (s : Situation) (op : OpId) → NumbersAreDistinct s.bundle.blocks → BodiesAreBytes s.bundle.blocks → BodiesAreBytes (revealed s) → Contains (all_operations s) op
     → IsKnown s.bundle.blocks op ⊎ ((block : Block) × Contains (revealed s) block × IsHeldBy op block)

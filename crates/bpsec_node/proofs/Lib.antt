@@ -30,5 +30,8 @@ pub mod Ringed
 pub mod Few
 pub mod RingKeys
 pub mod Ways
-pub mod Asked
 pub mod Known
+pub mod Picked
+pub mod Alike
+pub mod PartsOf
+pub mod BeginFaults

@@ -22,3 +22,5 @@ pub mod Seen
 pub mod Running
 pub mod Longer
 pub mod Shrunk
+pub mod Alike
+pub mod PartsOf

@@ -41,6 +41,7 @@ pub enum BeginFault {
         first: u64,
         second: u64,
     },
+    /// Memory ran out.
     NoMemory,
 }
 

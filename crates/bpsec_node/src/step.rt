@@ -77,7 +77,7 @@ struct Change {
     held: Option<Held>,
     sealed: List<u64>,
     stuck: List<u64>,
-    open: List<OpId>,
+    ops: List<OpId>,
     ready: List<OpId>,
 }
 
@@ -124,25 +124,25 @@ fn change_by(
     body: &Option<Bytes>,
     sealed: &[u64],
     stuck: &[u64],
-    open: &[OpId],
+    ops: &[OpId],
 ) -> Result<Change, NoMemory>
     ensures held { IfOk result (λ c. c.held ≡ held_after kind op.target body.now) }
     ensures sealed { IfOk result (λ c. c.sealed ≡ without_number op.target sealed.now) }
     ensures stuck { IfOk result (λ c. c.stuck ≡ stuck.now ++ option_to_list (stuck_after op.target body.now)) }
-    ensures open { IfOk result (λ c. c.open ≡ without_op op open.now ++ new_ops (held_after kind op.target body.now)) }
+    ensures ops { IfOk result (λ c. c.ops ≡ without_op op ops.now ++ new_ops (held_after kind op.target body.now)) }
     ensures ready { IfOk result (λ c. c.ready ≡ ready_among (without_number op.target sealed.now)
-        (without_op op open.now ++ new_ops (held_after kind op.target body.now))) }
+        (without_op op ops.now ++ new_ops (held_after kind op.target body.now))) }
 {
     let held = revealed(alloc, kind, op.target, body)?;
     let sealed = unsealed(alloc, sealed, op.target)?;
     let stuck = numbers_with(alloc, stuck, stuck_number(op.target, body))?;
-    let open = open_after(alloc, open, op, &held)?;
-    let ready = ready_among(alloc, sealed.items(), open.items())?;
+    let ops = open_after(alloc, ops, op, &held)?;
+    let ready = ready_among(alloc, sealed.items(), ops.items())?;
     Ok(Change {
         held,
         sealed,
         stuck,
-        open,
+        ops,
         ready,
     })
 }
@@ -240,7 +240,7 @@ impl<'a, S: Suite> Session<'a, S> {
             held,
             sealed,
             stuck,
-            open,
+            ops,
             ready,
         } = change_by(
             self.alloc,
@@ -264,7 +264,7 @@ impl<'a, S: Suite> Session<'a, S> {
         put_opened(&mut self.shown, op.target, body);
         self.sealed = sealed;
         self.stuck = stuck;
-        self.open = open;
+        self.open = ops;
         self.ready = ready;
         Ok(verdict)
     }

@@ -75,5 +75,5 @@ invariant_of-self-2 g c =
     let verdict : c.in_ok-verdict.field-0.verdict ≡ step_verdict (situation suite (after_step p c.args.op c.args.kept)) c.args.op =
     c.in_ok-verdict.ensures.verdict ∙ (ap (λ (k : Option (List ℕ)). verdict_over suite p.policy c.over-over.result false k) (sym c.requires.kept) ∙ covering_verdict suite p _ _ _ _ _ _ _ c.self.invariant c.args.op c.args.kept there cov c.over-over.result c.over-over.ensures.op at) in
     let kind = c.target_type-kind.ensures ∙ ap type_of (next_target suite p _ _ _ _ _ _ _ c.self.invariant c.args.op c.args.kept there cov c.over-over.result at) in
-    rw (c.in_ok-keep.ensures.done, c.in_ok-keep.ensures.keys, c.in_ok-keep.ensures.held, c.in_ok-keep.ensures.verdicts, c.put_opened.ensures, c.in_ok-held.ensures.held, c.in_ok-held.ensures.sealed, c.in_ok-held.ensures.stuck, c.in_ok-held.ensures.ready, c.in_ok-held.ensures.open, c.items.ensures, c.items-2.ensures, c.items-3.ensures, body, kind)
+    rw (c.in_ok-keep.ensures.done, c.in_ok-keep.ensures.keys, c.in_ok-keep.ensures.held, c.in_ok-keep.ensures.verdicts, c.put_opened.ensures, c.in_ok-held.ensures.held, c.in_ok-held.ensures.sealed, c.in_ok-held.ensures.stuck, c.in_ok-held.ensures.ready, c.in_ok-held.ensures.ops, c.items.ensures, c.items-2.ensures, c.items-3.ensures, body, kind)
     (next_covering suite p _ _ _ _ _ _ _ c.self.invariant c.args.op c.args.kept there cov c.in_ok-verdict.field-0.verdict (λ context k parameters results parts text. g.met.S.Suite.never_longer context k parameters results parts text) verdict)
