@@ -13,6 +13,10 @@ pub record Sunk : Type 0 where
   pub faults_before : ℕ
   pub faults_now : ℕ
 
+-- this sink, from before a run to after it, by what its trait tells of it
+abbrev pub sunk_of : {W : Type 0} → (W → Option (List ℕ)) → (W → ℕ) → W → W → Sunk
+sunk_of written faults before now = record { before = written before; now = written now; faults_before = faults before; faults_now = faults now }
+
 -- it got just these bytes
 pub record Got (sunk : Sunk) (bytes : List ℕ) : Type 0 where
   pub added : Appended sunk.before bytes sunk.now

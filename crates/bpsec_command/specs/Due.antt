@@ -18,6 +18,18 @@ pub record Devices : Type 0 where
   pub failed_before : List (List ℕ)
   pub failed_now : List (List ℕ)
 
+-- these devices, from before a run to after it, by what their traits tell of them
+abbrev pub devices_of : {I F : Type 0} → (I → Option (List ℕ)) → (I → ℕ) → (F → Option (List ℕ → Option (List ℕ))) → (F → List (List ℕ))
+    → I → I → F → F → Devices
+devices_of left faults files failed input input' shelf shelf' = record {
+  input = left input;
+  input_before = faults input;
+  input_now = faults input';
+  files = files shelf;
+  failed_before = failed shelf;
+  failed_now = failed shelf';
+}
+
 -- the content of the name, where it is told, else any
 abbrev pub IsFile : Option (List ℕ → Option (List ℕ)) → List ℕ → List ℕ → Type 0
 IsFile files name content = IfSome files (λ held. held name ≡ Some content)

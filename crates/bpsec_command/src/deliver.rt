@@ -1,7 +1,7 @@
 //! The last step: what is due is written, the output whole before the report. Here alone are write faults.
 
 ghost use Rattle.std.specs.Prelude.{◌≡◌, []};
-ghost use Rattle.bpsec_command.specs.Delivery.{IsDelivered, Takes};
+ghost use Rattle.bpsec_command.specs.Delivery.{IsDelivered, Takes, sunk_of};
 
 use crate::status::{Status, Writing};
 use bp_outside::{Sink, write_all};
@@ -15,10 +15,11 @@ pub fn deliver<W: Sink, R: Sink>(
     report: &mut R,
 ) -> Status
     ensures delivered { IsDelivered (record { status = status; out = out_due.now; report = report_due.now }) result
-        (record { before = W.written out.old; now = W.written out.new; faults_before = W.faults out.old; faults_now = W.faults out.new })
-        (record { before = R.written report.old; now = R.written report.new; faults_before = R.faults report.old; faults_now = R.faults report.new }) }
+        (sunk_of W.written W.faults out.old out.new)
+        (sunk_of R.written R.faults report.old report.new) }
     ensures untouched_out { out_due.now ≡ [] → out.new ≡ out.old }
-    ensures takes_on { Takes (W.takes out.old) out_due.now → Takes (R.takes report.old) report_due.now → result ≡ status }
+    ensures takes_on { Takes (W.takes out.old) out_due.now → Takes (R.takes report.old) report_due.now
+        → result ≡ status }
 {
     if write_all(out, out_due).is_err() {
         return Status::WriteFault(Writing::Out);

@@ -17,7 +17,8 @@ pub fn read_bundle<S: Source>(
     alloc: Global,
     input: &mut S,
 ) -> Result<Result<Bundle, Fault>, Hindrance>
-    ensures means { IfOk result (λ read. (bytes : List ℕ) × IsInput (S.left input.old) bytes × (read ≡ read_only bytes)) }
+    ensures means { IfOk result (λ read. (bytes : List ℕ) × IsInput (S.left input.old) bytes
+        × (read ≡ read_only bytes)) }
     ensures ended { IfOk result (λ read. IfOk read (λ _. IfSome (S.left input.new) (λ rest. rest ≡ []))) }
     ensures at_most { TakesAtMost most_taken (S.left input.old) (S.left input.new) }
     ensures quiet { (IsErrOf result Hindrance.Input → ⊥) → S.faults input.new ≡ S.faults input.old }

@@ -1,6 +1,6 @@
-//! The program, from its words to its status: `run` reads the words, fetches the named files, reads the input, does the job,
-//! and delivers the answer. Each command is a line of the grammar, a job of its own, and a case of the definition of the
-//! answer.
+//! The program, from its words to its status: `run` reads the words, fetches the named files, reads the input, does the
+//! job, and delivers the answer. Each command is a line of the grammar, a job of its own, and a case of the definition
+//! of the answer.
 #![tactic(auto)]
 
 mod answer;

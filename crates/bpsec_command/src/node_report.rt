@@ -4,7 +4,8 @@ ghost use Rattle.std.specs.Prelude.{◌≡◌, ◌++◌, [], IfOk, OnOk, string_
 ghost use Rattle.std.specs.List.{flat_map};
 ghost use Rattle.std.specs.Option.{option_copied};
 ghost use Rattle.bpsec_policy.specs.Words as words;
-ghost use Rattle.bpsec_command.specs.NodeReport.{block_text, done_line, ended, event_line, order_line, order_lines, report_of, result_line, verdict_text};
+ghost use Rattle.bpsec_command.specs.NodeReport.{block_text, done_line, ended, event_line, order_line, order_lines};
+ghost use Rattle.bpsec_command.specs.NodeReport.{report_of, result_line, verdict_text};
 ghost use Rattle.bpsec_command.specs.Statuses.{IsSuccess, IsFault, IsRefusedEarly};
 
 use crate::answer::Answer;

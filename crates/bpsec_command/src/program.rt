@@ -4,8 +4,8 @@ ghost use Rattle.std.specs.Prelude.{◌≡◌, [], map, string_bytes, IfSome};
 ghost use Rattle.bpsec_command.specs.Answer.{job};
 ghost use Rattle.bpsec_command.specs.Refusals.{memory_fault};
 ghost use Rattle.bpsec_command.specs.declared.answer.Answer.{Answer};
-ghost use Rattle.bpsec_command.specs.Due.{IsDue, EndsWith};
-ghost use Rattle.bpsec_command.specs.Delivery.{IsDelivered, Takes};
+ghost use Rattle.bpsec_command.specs.Due.{IsDue, EndsWith, devices_of};
+ghost use Rattle.bpsec_command.specs.Delivery.{IsDelivered, Takes, sunk_of};
 ghost use Rattle.bp_bundle.specs.WholeInput.{TakesAtMost};
 ghost use Rattle.bpsec_command.specs.Statuses.{IsSuccess, IsRefusedEarly, IsFault};
 ghost use Rattle.bpsec_command.specs.Words.{ReadsInput, command_of, most_taken_for};
@@ -27,43 +27,34 @@ pub fn run<S: Source, K: Shelf, W: Sink, R: Sink>(
     out: &mut W,
     report: &mut R,
 ) -> Status
-    // Something is due, and it is delivered: what is due is the answer to the words, or the line of a fault of the input or
-    // the shelf, or of want of memory.
+    // Something is due, and it is delivered: what is due is the answer to the words, or the line of a fault of the
+    // input or the shelf, or of want of memory.
     ensures answered { (due : Answer)
-        × IsDue (record {
-          input = S.left input.old;
-          input_before = S.faults input.old;
-          input_now = S.faults input.new;
-          files = K.files shelf.old;
-          failed_before = K.failed shelf.old;
-          failed_now = K.failed shelf.new;
-        })
+        × IsDue (devices_of S.left S.faults K.files K.failed input.old input.new shelf.old shelf.new)
         (job (map string_bytes words.now)) due
         × IsDelivered due result
-        (record { before = W.written out.old; now = W.written out.new; faults_before = W.faults out.old; faults_now = W.faults out.new })
-        (record { before = R.written report.old; now = R.written report.new; faults_before = R.faults report.old; faults_now = R.faults report.new }) }
+        (sunk_of W.written W.faults out.old out.new)
+        (sunk_of R.written R.faults report.old report.new) }
 
     // Where no write failed, only what is done writes to the output.
-    ensures untouched_out { (IsSuccess result → ⊥) → (result ≡ WriteFault Out → ⊥) → (result ≡ WriteFault Report → ⊥) → out.new ≡ out.old }
+    ensures untouched_out { (IsSuccess result → ⊥) → (result ≡ WriteFault Out → ⊥)
+        → (result ≡ WriteFault Report → ⊥) → out.new ≡ out.old }
 
     // What is left of the input, and of the files.
-    ensures ended { IsSuccess result → ReadsInput (map string_bytes words.now) → IfSome (S.left input.new) (λ rest. rest ≡ []) }
+    ensures ended { IsSuccess result → ReadsInput (map string_bytes words.now)
+        → IfSome (S.left input.new) (λ rest. rest ≡ []) }
     ensures unread { IsRefusedEarly result → input.new ≡ input.old }
     ensures unread_words { (ReadsInput (map string_bytes words.now) → ⊥) → input.new ≡ input.old }
-    ensures at_most { TakesAtMost (most_taken_for (command_of (map string_bytes words.now))) (S.left input.old) (S.left input.new) }
+    ensures at_most { TakesAtMost (most_taken_for (command_of (map string_bytes words.now)))
+        (S.left input.old) (S.left input.new) }
     ensures files { K.files shelf.new ≡ K.files shelf.old }
 
     // Nothing fails over steady devices whose sinks take what is due.
     ensures complete { S.steady input.old → K.steady shelf.old
-        → ((due : Answer) → EndsWith (record {
-          input = S.left input.old;
-          input_before = S.faults input.old;
-          input_now = S.faults input.new;
-          files = K.files shelf.old;
-          failed_before = K.failed shelf.old;
-          failed_now = K.failed shelf.new;
-        })
-        (job (map string_bytes words.now)) due → Takes (W.takes out.old) due.out × Takes (R.takes report.old) due.report)
+        → ((due : Answer)
+        → EndsWith (devices_of S.left S.faults K.files K.failed input.old input.new shelf.old shelf.new)
+        (job (map string_bytes words.now)) due
+        → Takes (W.takes out.old) due.out × Takes (R.takes report.old) due.report)
         → Takes (R.takes report.old) memory_fault.report → IsFault result → ⊥ }
 {
     match respond(alloc, words, input, shelf) {

@@ -25,7 +25,8 @@ use std::alloc::Global;
 fn add_refused(alloc: Global, fault: AddFault) -> Result<Answer, NoMemory>
     ensures is { IfOk result (λ answer. answer ≡ add_refused fault) }
     ensures met { IfOk result (λ _. fault ≡ AddFault.NoMemory → ⊥) }
-    ensures late { IfOk result (λ answer. (IsFault answer.status → ⊥) × (IsRefusedEarly answer.status → ⊥) × (IsSuccess answer.status → ⊥)) }
+    ensures late { IfOk result (λ answer. (IsFault answer.status → ⊥) × (IsRefusedEarly answer.status → ⊥)
+        × (IsSuccess answer.status → ⊥)) }
     ensures no_output { IfOk result (λ answer. answer.out ≡ []) }
 {
     match fault {
@@ -44,7 +45,8 @@ fn add_refused(alloc: Global, fault: AddFault) -> Result<Answer, NoMemory>
 
 /// The answer at the end of the input: the fragments joined, or why they aren't.
 fn join(alloc: Global, pieces: Assembly) -> Result<Answer, NoMemory>
-    ensures is { (before : List Contents) → Took pieces before → IfOk result (λ answer. answer ≡ joined_answer (joined before)) }
+    ensures is { (before : List Contents) → Took pieces before → IfOk result
+        (λ answer. answer ≡ joined_answer (joined before)) }
     ensures no_fault { IfOk result (λ answer. IsFault answer.status → ⊥) }
     ensures not_early { IfOk result (λ answer. IsRefusedEarly answer.status → ⊥) }
     ensures no_output { IfOk result (λ answer. (IsSuccess answer.status → ⊥) → answer.out ≡ []) }
@@ -76,7 +78,8 @@ fn gather<S: Source>(
 ) -> Result<Answer, Hindrance>
     requires open { bundles.old.met ≡ None }
     requires room { bundles.old.taken + more * 2 ^ 32 < 2 ^ 60 }
-    ensures means { (before : List Contents) → Took pieces before → IfOk result (λ answer. (bytes : List ℕ) × IsInput (S.left input.old) bytes
+    ensures means { (before : List Contents) → Took pieces before → IfOk result
+        (λ answer. (bytes : List ℕ) × IsInput (S.left input.old) bytes
         × (answer ≡ gathering more (place (waiting bundles.old)) before (bundles.old.held ++ bytes))) }
     ensures no_fault { IfOk result (λ answer. IsFault answer.status → ⊥) }
     ensures not_early { IfOk result (λ answer. IsRefusedEarly answer.status → ⊥) }
@@ -110,7 +113,8 @@ const MOST_READ: u64 = 257;
 
 /// Reads the fragments of the input one after the other, adds each before the next is read, and joins them.
 pub fn reassemble<S: Source>(alloc: Global, input: &mut S) -> Result<Answer, Hindrance>
-    ensures means { IfOk result (λ answer. (bytes : List ℕ) × IsInput (S.left input.old) bytes × (answer ≡ reassembled bytes)) }
+    ensures means { IfOk result (λ answer. (bytes : List ℕ) × IsInput (S.left input.old) bytes
+        × (answer ≡ reassembled bytes)) }
     ensures no_fault { IfOk result (λ answer. IsFault answer.status → ⊥) }
     ensures not_early { IfOk result (λ answer. IsRefusedEarly answer.status → ⊥) }
     ensures no_output { IfOk result (λ answer. (IsSuccess answer.status → ⊥) → answer.out ≡ []) }

@@ -1,7 +1,9 @@
 //! The answers of refusals, a line of the report each.
 
 ghost use Rattle.std.specs.Prelude.{◌≡◌, string_bytes, IfOk};
-ghost use Rattle.bpsec_command.specs.Refusals.{at_text, broken_line, broken_refused, bundle_refused, double_line, double_refused, fragment_refused, pieces_refused, plan_refused, reason_line, text_line, text_refused, usage};
+ghost use Rattle.bpsec_command.specs.Refusals.{at_text, broken_line, broken_refused, bundle_refused, double_line};
+ghost use Rattle.bpsec_command.specs.Refusals.{double_refused, fragment_refused, pieces_refused, plan_refused};
+ghost use Rattle.bpsec_command.specs.Refusals.{reason_line, text_line, text_refused, usage};
 ghost use Rattle.bpsec_command.specs.Reasons as names;
 
 use crate::answer::{Answer, refusal};

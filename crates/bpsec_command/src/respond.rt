@@ -6,7 +6,7 @@ ghost use Rattle.bpsec_command.specs.Refusals.{text_refused};
 ghost use Rattle.bp_bundle.specs.FirstFault.{read_only};
 ghost use Rattle.bpsec_policy.specs.RingText.{ring_of};
 ghost use Rattle.bpsec_command.specs.declared.status.Status.TheVariants.{RingRefused};
-ghost use Rattle.bpsec_command.specs.Due.{IsDue, due_of};
+ghost use Rattle.bpsec_command.specs.Due.{IsDue, devices_of, due_of};
 ghost use Rattle.bp_bundle.specs.WholeInput.{TakesAtMost, most_taken};
 ghost use Rattle.bp_bundle.specs.BackToBack.{most_for_one};
 ghost use Rattle.bpsec_command.specs.Reassembled.{reassembled};
@@ -39,14 +39,7 @@ fn on_bundle<S: Source, K: Shelf, J: BundleJob>(
     shelf: &K,
     job: &J,
 ) -> Result<Answer, Hindrance>
-    ensures due { IsDue (record {
-      input = S.left input.old;
-      input_before = S.faults input.old;
-      input_now = S.faults input.new;
-      files = K.files shelf.now;
-      failed_before = K.failed shelf.now;
-      failed_now = K.failed shelf.now;
-    })
+    ensures due { IsDue (devices_of S.left S.faults K.files K.failed input.old input.new shelf.now shelf.now)
         (Read (λ bytes. Answered (on_bundle (J.answer_to job.now) (read_only bytes)))) (due_of result) }
     ensures no_fault { IfOk result (λ answer. IsFault answer.status → ⊥) }
     ensures no_output { IfOk result (λ answer. (IsSuccess answer.status → ⊥) → answer.out ≡ []) }
@@ -72,15 +65,9 @@ fn on_text<S: Source, K: Shelf, J: TextJob>(
     name: &str,
     job: &J,
 ) -> Result<Answer, Hindrance>
-    ensures due { IsDue (record {
-      input = S.left input.now;
-      input_before = S.faults input.now;
-      input_now = S.faults input.now;
-      files = K.files shelf.old;
-      failed_before = K.failed shelf.old;
-      failed_now = K.failed shelf.new;
-    })
-        (with_text J.Text.reads (text_refused J.Text.ends J.Text.told_as) name.now (λ text. Answered (J.answer_to job.now text))) (due_of result) }
+    ensures due { IsDue (devices_of S.left S.faults K.files K.failed input.now input.now shelf.old shelf.new)
+        (with_text J.Text.reads (text_refused J.Text.ends J.Text.told_as) name.now
+        (λ text. Answered (J.answer_to job.now text))) (due_of result) }
     ensures no_fault { IfOk result (λ answer. IsFault answer.status → ⊥) }
     ensures no_output { IfOk result (λ answer. (IsSuccess answer.status → ⊥) → answer.out ≡ []) }
     ensures files { K.files shelf.new ≡ K.files shelf.old }
@@ -104,16 +91,10 @@ fn on_ring<S: Source, K: Shelf, J: KeyedJob>(
     text: J::Text,
     job: &J,
 ) -> Result<Answer, Hindrance>
-    ensures due { IsDue (record {
-      input = S.left input.old;
-      input_before = S.faults input.old;
-      input_now = S.faults input.new;
-      files = K.files shelf.old;
-      failed_before = K.failed shelf.old;
-      failed_now = K.failed shelf.new;
-    })
+    ensures due { IsDue (devices_of S.left S.faults K.files K.failed input.old input.new shelf.old shelf.new)
         (with_text ring_of (text_refused RingRefused (codes "keys")) keys.now
-        (λ ring. Read (λ bytes. Answered (on_bundle (J.answer_to job.now text ring) (read_only bytes))))) (due_of result) }
+        (λ ring. Read (λ bytes. Answered (on_bundle (J.answer_to job.now text ring) (read_only bytes)))))
+        (due_of result) }
     ensures no_fault { IfOk result (λ answer. IsFault answer.status → ⊥) }
     ensures no_output { IfOk result (λ answer. (IsSuccess answer.status → ⊥) → answer.out ≡ []) }
     ensures ended { IfOk result (λ answer. IsSuccess answer.status → IfSome (S.left input.new) (λ rest. rest ≡ [])) }
@@ -143,17 +124,11 @@ fn on_text_and_ring<S: Source, K: Shelf, J: KeyedJob>(
     keys: &str,
     job: &J,
 ) -> Result<Answer, Hindrance>
-    ensures due { IsDue (record {
-      input = S.left input.old;
-      input_before = S.faults input.old;
-      input_now = S.faults input.new;
-      files = K.files shelf.old;
-      failed_before = K.failed shelf.old;
-      failed_now = K.failed shelf.new;
-    })
+    ensures due { IsDue (devices_of S.left S.faults K.files K.failed input.old input.new shelf.old shelf.new)
         (with_text J.Text.reads (text_refused J.Text.ends J.Text.told_as) name.now
         (λ text. with_text ring_of (text_refused RingRefused (codes "keys")) keys.now
-        (λ ring. Read (λ bytes. Answered (on_bundle (J.answer_to job.now text ring) (read_only bytes)))))) (due_of result) }
+        (λ ring. Read (λ bytes. Answered (on_bundle (J.answer_to job.now text ring) (read_only bytes))))))
+        (due_of result) }
     ensures no_fault { IfOk result (λ answer. IsFault answer.status → ⊥) }
     ensures no_output { IfOk result (λ answer. (IsSuccess answer.status → ⊥) → answer.out ≡ []) }
     ensures ended { IfOk result (λ answer. IsSuccess answer.status → IfSome (S.left input.new) (λ rest. rest ≡ [])) }
@@ -175,14 +150,7 @@ fn on_fragments<S: Source, K: Shelf>(
     input: &mut S,
     shelf: &K,
 ) -> Result<Answer, Hindrance>
-    ensures due { IsDue (record {
-      input = S.left input.old;
-      input_before = S.faults input.old;
-      input_now = S.faults input.new;
-      files = K.files shelf.now;
-      failed_before = K.failed shelf.now;
-      failed_now = K.failed shelf.now;
-    })
+    ensures due { IsDue (devices_of S.left S.faults K.files K.failed input.old input.new shelf.now shelf.now)
         (Read (λ bytes. Answered (reassembled bytes))) (due_of result) }
     ensures no_fault { IfOk result (λ answer. IsFault answer.status → ⊥) }
     ensures no_output { IfOk result (λ answer. (IsSuccess answer.status → ⊥) → answer.out ≡ []) }
@@ -203,14 +171,7 @@ pub fn respond<S: Source, K: Shelf>(
     input: &mut S,
     shelf: &mut K,
 ) -> Result<Answer, Hindrance>
-    ensures due { IsDue (record {
-      input = S.left input.old;
-      input_before = S.faults input.old;
-      input_now = S.faults input.new;
-      files = K.files shelf.old;
-      failed_before = K.failed shelf.old;
-      failed_now = K.failed shelf.new;
-    })
+    ensures due { IsDue (devices_of S.left S.faults K.files K.failed input.old input.new shelf.old shelf.new)
         (job (map string_bytes words.now)) (due_of result) }
     ensures no_fault { IfOk result (λ answer. IsFault answer.status → ⊥) }
     ensures no_output { IfOk result (λ answer. (IsSuccess answer.status → ⊥) → answer.out ≡ []) }
@@ -218,7 +179,8 @@ pub fn respond<S: Source, K: Shelf>(
         → IfSome (S.left input.new) (λ rest. rest ≡ [])) }
     ensures unread { IfOk result (λ answer. IsRefusedEarly answer.status → input.new ≡ input.old) }
     ensures unread_words { (ReadsInput (map string_bytes words.now) → ⊥) → input.new ≡ input.old }
-    ensures at_most { TakesAtMost (most_taken_for (command_of (map string_bytes words.now))) (S.left input.old) (S.left input.new) }
+    ensures at_most { TakesAtMost (most_taken_for (command_of (map string_bytes words.now)))
+        (S.left input.old) (S.left input.new) }
     ensures files { K.files shelf.new ≡ K.files shelf.old }
     ensures reads_on { S.steady input.old → IsErrOf result Hindrance.Input → ⊥ }
     ensures fetches_on { K.steady shelf.old → IsErrOf result Hindrance.Shelf → ⊥ }

@@ -1,6 +1,7 @@
 //! The second step: a named file, fetched and then read as a text. Here alone are faults of the shelf.
 
-ghost use Rattle.std.specs.Prelude.{◌≡◌, ◌<◌, ◌∷◌, ◌++◌, ℕ, [], List, Result, Err, None, length, codes, refl, IfOk, IsErrOf};
+ghost use Rattle.std.specs.Prelude.{◌≡◌, ◌<◌, ◌∷◌, ◌++◌, ℕ, [], List};
+ghost use Rattle.std.specs.Prelude.{Result, Err, None, length, codes, refl, IfOk, IsErrOf};
 ghost use Rattle.bp_text.specs.Fault.{Gives};
 ghost use Rattle.bp_text.specs.declared.fault.TextFault.{TextFault};
 ghost use Rattle.bp_text.specs.declared.fault.TextReason.TheVariants.{TooLong};
@@ -48,7 +49,8 @@ pub trait NamedText: Sized + Drop {
         ensures { result ≡ ends fault };
 
     /// A text of more than 1,048,576 bytes is too long.
-    ghost long: { (bytes : List ℕ) → 1048576 < length bytes → reads bytes ≡ Err (record { entry = None; reason = TooLong }) };
+    ghost long: { (bytes : List ℕ) → 1048576 < length bytes
+        → reads bytes ≡ Err (record { entry = None; reason = TooLong }) };
 
     ghost early: { (fault : TextFault) → IsRefusedEarly (ends fault) };
 }
@@ -157,7 +159,8 @@ pub fn read_text<K: Shelf, T: NamedText>(
     shelf: &mut K,
     name: &str,
 ) -> Result<Result<T, TextFault>, Hindrance>
-    ensures means { IfOk result (λ read. (content : List ℕ) × IsFile (K.files shelf.old) name.now content × (read ≡ T.reads content)) }
+    ensures means { IfOk result (λ read. (content : List ℕ) × IsFile (K.files shelf.old) name.now content
+        × (read ≡ T.reads content)) }
     ensures files { K.files shelf.new ≡ K.files shelf.old }
     ensures quiet { (IsErrOf result Hindrance.Shelf → ⊥) → K.failed shelf.new ≡ K.failed shelf.old }
     ensures noted { IsErrOf result Hindrance.Shelf → K.failed shelf.new ≡ K.failed shelf.old ++ name.now ∷ [] }

@@ -141,7 +141,8 @@ fn or_line<'a>(
     words: &[String],
     command: Command<'a>,
 ) -> Result<Command<'a>, u64>
-    ensures { read_as result ≡ or_line (map slot_of slots.now) (map string_bytes words.now) (told_by command.entry) (read_as before.entry) }
+    ensures { read_as result
+        ≡ or_line (map slot_of slots.now) (map string_bytes words.now) (told_by command.entry) (read_as before.entry) }
 {
     let Err(faulty) = before else {
         return before;

@@ -31,7 +31,8 @@ fn run(
     order: u64,
 ) -> Result<Answer, NoMemory>
     requires { session.done ≡ [] }
-    ensures is { IfOk result (λ answer. answer ≡ ended (picked_by (at_node contexts session.entry.received session.entry.policy ring.now) order)) }
+    ensures is { IfOk result (λ answer. answer
+        ≡ ended (picked_by (at_node contexts session.entry.received session.entry.policy ring.now) order)) }
     ensures no_fault { IfOk result (λ answer. IsFault answer.status → ⊥) }
     ensures not_early { IfOk result (λ answer. IsRefusedEarly answer.status → ⊥) }
     ensures no_output { IfOk result (λ answer. (IsSuccess answer.status → ⊥) → answer.out ≡ []) }
