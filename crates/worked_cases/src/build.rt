@@ -1,9 +1,9 @@
 //! `build`.
 
 use crate::inputs::{CHECKED, PLAIN as PLAIN_BUNDLE};
-use crate::rows::{Row, fields_of};
+use crate::rows::{Case, Row, case_of, fields_of};
 use crate::runs::{Given, Made, over_file, run_on, text_file};
-use crate::texts::{BUILDS, PLAIN};
+use crate::texts::{BUILDS, BUILT, MORE_BUILDS, PLAIN};
 use bpsec_command::Status;
 use std::alloc::Global;
 use std::process::Abort;
@@ -46,8 +46,10 @@ fn expect_line(rt: &(impl Abort + AllocGlobal), case: Row) -> Result<(), Fail> {
 
 #[test]
 fn texts_are_built_or_refused(rt: HostRuntime) -> Result<(), Fail> {
-    for line in BUILDS.lines() {
-        expect_line(&rt, fields_of(line)?)?;
+    for table in [BUILDS, MORE_BUILDS] {
+        for line in table.lines() {
+            expect_line(&rt, fields_of(line)?)?;
+        }
     }
     let marked = with(rt.alloc(), PLAIN, "{", "\u{feff}{")?;
     let made = build(rt.alloc(), marked.as_str())?;
@@ -55,6 +57,27 @@ fn texts_are_built_or_refused(rt: HostRuntime) -> Result<(), Fail> {
         made.report.as_slice(),
         b"refused text entry=- reason=NotJson\n".as_slice()
     );
+    Ok(())
+}
+
+/// What a text gives: its bytes, and its line in the report.
+fn expect_bundle(rt: &(impl Abort + AllocGlobal), case: Case) -> Result<(), Fail> {
+    let alloc = rt.alloc();
+    let name = case.name;
+    let made = build(alloc, with(alloc, PLAIN, case.first, case.second)?.as_str())?;
+    let out = hex::decode(alloc, case.out)?;
+    let line = format!(in alloc; "{}\n", case.line)?;
+    assert_eq!(rt; made.status, Status::Done, "{name}");
+    assert_eq!(rt; made.out.as_slice(), out.as_slice(), "{name}");
+    assert_eq!(rt; made.report.as_slice(), line.as_bytes(), "{name}");
+    Ok(())
+}
+
+#[test]
+fn texts_are_built(rt: HostRuntime) -> Result<(), Fail> {
+    for line in BUILT.lines() {
+        expect_bundle(&rt, case_of(line)?)?;
+    }
     Ok(())
 }
 
@@ -139,9 +162,9 @@ fn a_text_has_64_blocks_at_most(rt: HostRuntime) -> Result<(), Fail> {
     Ok(())
 }
 
-/// The text with spaces behind it, so many bytes in all.
-fn filled(alloc: Global, len: usize) -> Result<String, Fail> {
-    let mut text = String::from_str(alloc, PLAIN)?;
+/// A text with spaces behind it, so many bytes in all.
+pub fn filled(alloc: Global, text: &str, len: usize) -> Result<String, Fail> {
+    let mut text = String::from_str(alloc, text)?;
     let space = str::from_utf8(&[b' '; 1024])?;
     for _ in 0..1023 {
         text.push_str(space)?;
@@ -155,9 +178,9 @@ fn filled(alloc: Global, len: usize) -> Result<String, Fail> {
 #[test]
 fn a_text_has_1_mebibyte_at_most(rt: HostRuntime) -> Result<(), Fail> {
     let alloc = rt.alloc();
-    let most = build(alloc, filled(alloc, 1_048_576)?.as_str())?;
+    let most = build(alloc, filled(alloc, PLAIN, 1_048_576)?.as_str())?;
     assert_eq!(rt; most.status, Status::Done);
-    let more = build(alloc, filled(alloc, 1_048_577)?.as_str())?;
+    let more = build(alloc, filled(alloc, PLAIN, 1_048_577)?.as_str())?;
     assert_eq!(rt; more.status.code(), 6);
     assert_eq!(rt;
         more.report.as_slice(),

@@ -1,7 +1,9 @@
 //! `check`.
 
-use crate::inputs::{CHECKED, Input, PLAIN, bundles, first_faults};
+use crate::inputs::{PLAIN, bundles, first_faults};
+use crate::rows::fields_of;
 use crate::runs::{Given, over_input, run_on};
+use crate::tokens::{RULES, TOKENS};
 use bpsec_command::{Reading, Status, Writing};
 use std::process::Abort;
 use std::test::Fail;
@@ -9,8 +11,12 @@ use std::test::Fail;
 const CHECK: &[&str; 1] = &["check"];
 
 /// Runs `check` on the input in pieces of at most so many bytes.
-fn expect_line(rt: &(impl Abort + AllocGlobal), case: &Input, most: usize) -> Result<(), Fail> {
-    let (name, input, line) = *case;
+fn expect_line(
+    rt: &(impl Abort + AllocGlobal),
+    case: (&str, &[u8], &[u8]),
+    most: usize,
+) -> Result<(), Fail> {
+    let (name, input, line) = case;
     let made = run_on(rt.alloc(), &over_input(CHECK, input, most))?;
     let (code, out, report) = if line.starts_with(b"ok") {
         (0, line, b"".as_slice())
@@ -26,8 +32,9 @@ fn expect_line(rt: &(impl Abort + AllocGlobal), case: &Input, most: usize) -> Re
 #[test]
 fn bundles_are_counted(rt: HostRuntime) -> Result<(), Fail> {
     for case in &bundles() {
-        expect_line(&rt, case, 4096)?;
-        expect_line(&rt, case, 1)?;
+        for most in [1, 7, 4096] {
+            expect_line(&rt, *case, most)?;
+        }
     }
     Ok(())
 }
@@ -35,20 +42,59 @@ fn bundles_are_counted(rt: HostRuntime) -> Result<(), Fail> {
 #[test]
 fn others_are_refused_at_their_first_fault(rt: HostRuntime) -> Result<(), Fail> {
     for case in &first_faults() {
-        expect_line(&rt, case, 4096)?;
-        expect_line(&rt, case, 1)?;
+        for most in [1, 7, 4096] {
+            expect_line(&rt, *case, most)?;
+        }
+    }
+    Ok(())
+}
+
+/// A line of a table of tokens, in pieces of 1 and of 7 bytes and whole.
+fn expect_fault(rt: &(impl Abort + AllocGlobal), line: &str) -> Result<(), Fail> {
+    let alloc = rt.alloc();
+    let row = fields_of(line)?;
+    let count: usize = row.old.parse()?;
+    let mut input = Vec::from_slice(alloc, PLAIN.get(..count).ok_or("a front")?)?;
+    input.extend_from_slice(hex::decode(alloc, row.new)?.as_slice())?;
+    let report = format!(in alloc; "{}\n", row.line)?;
+    for most in [1, 7, 4096] {
+        expect_line(rt, (row.name, input.as_slice(), report.as_bytes()), most)?;
+    }
+    Ok(())
+}
+
+#[test]
+fn tokens_are_refused_by_the_first_rule(rt: HostRuntime) -> Result<(), Fail> {
+    for table in [RULES, TOKENS] {
+        for line in table.lines() {
+            expect_fault(&rt, line)?;
+        }
+    }
+    Ok(())
+}
+
+/// The first so many bytes of a bundle.
+fn expect_prefix(
+    rt: &(impl Abort + AllocGlobal),
+    name: &str,
+    input: &[u8],
+    count: usize,
+) -> Result<(), Fail> {
+    let prefix = input.get(..count).ok_or("a prefix")?;
+    let line = format!(in rt.alloc(); "refused bundle place={count} reason=Truncated\n")?;
+    for most in [1, 7, 4096] {
+        expect_line(rt, (name, prefix, line.as_bytes()), most)?;
     }
     Ok(())
 }
 
 #[test]
 fn each_proper_prefix_is_truncated_at_its_length(rt: HostRuntime) -> Result<(), Fail> {
-    let alloc = rt.alloc();
-    for n in 0..CHECKED.len() {
-        let made = run_on(alloc, &over_input(CHECK, &CHECKED[..n], 7))?;
-        let line = format!(in alloc; "refused bundle place={n} reason=Truncated\n")?;
-        assert_eq!(rt; made.status.code(), 3);
-        assert_eq!(rt; made.report.as_slice(), line.as_bytes());
+    for case in &bundles() {
+        let (name, input, _line) = *case;
+        for count in 0..input.len() {
+            expect_prefix(&rt, name, input, count)?;
+        }
     }
     Ok(())
 }

@@ -1,8 +1,13 @@
 //! `explain`.
 
+use crate::explained::LINES;
 use crate::inputs::{Input, first_faults};
+use crate::rows::{Row, fields_of};
 use crate::runs::{over_input, run_on};
 use bpsec_command::Status;
+use cbor_profile::{Bytes, NoMemory};
+use std::alloc::Global;
+use std::process::Abort;
 use std::test::Fail;
 
 const EXPLAIN: &[&str; 1] = &["explain"];
@@ -52,6 +57,38 @@ fn bundles_are_explained(rt: HostRuntime) -> Result<(), Fail> {
             assert_eq!(rt; made.status, Status::Done, "{name}");
             assert_eq!(rt; made.out.as_slice(), lines, "{name}");
             assert_eq!(rt; made.report.as_slice(), b"".as_slice(), "{name}");
+        }
+    }
+    Ok(())
+}
+
+/// The lines that stand between strokes.
+fn lines_of(alloc: Global, line: &str) -> Result<Bytes, NoMemory> {
+    let mut lines = Bytes::new(alloc);
+    for byte in line.as_bytes() {
+        lines.extend(&[if *byte == b'|' { b'\n' } else { *byte }])?;
+    }
+    lines.extend(b"\n")?;
+    Ok(lines)
+}
+
+fn expect_lines(rt: &(impl Abort + AllocGlobal), row: Row, most: usize) -> Result<(), Fail> {
+    let alloc = rt.alloc();
+    let name = row.name;
+    let input = hex::decode(alloc, row.old)?;
+    let lines = lines_of(alloc, row.line)?;
+    let made = run_on(alloc, &over_input(EXPLAIN, input.as_slice(), most))?;
+    assert_eq!(rt; made.out.as_slice(), lines.as_slice(), "{name}");
+    assert_eq!(rt; made.report.as_slice(), b"".as_slice(), "{name}");
+    assert_eq!(rt; made.status, Status::Done, "{name}");
+    Ok(())
+}
+
+#[test]
+fn blocks_and_operations_are_explained(rt: HostRuntime) -> Result<(), Fail> {
+    for line in LINES.lines() {
+        for most in [1, 4096] {
+            expect_lines(&rt, fields_of(line)?, most)?;
         }
     }
     Ok(())

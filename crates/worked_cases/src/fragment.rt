@@ -1,13 +1,19 @@
 //! `fragment` and `reassemble`.
 
 use crate::cuts::{CUTS, JOINS, MORE_JOINS};
-use crate::inputs::PLAIN;
-use crate::rows::{Case, case_of};
+use crate::inputs::{PLAIN, first_faults};
+use crate::joins::{ALIKE, LAST};
+use crate::rows::{Case, Row, case_of, fields_of};
 use crate::runs::{Given, Made, over_input, run_on};
-use bpsec_command::{Reading, Status};
+use crate::tokens::{RULES, TOKENS};
+use bpsec_command::{Reading, Status, Writing};
 use std::alloc::Global;
 use std::process::Abort;
 use std::test::Fail;
+
+/// The first 16 bytes of the plain bundle's payload.
+const FRAGMENT: &[u8] =
+    b"\x9f\x8a\x07\x01\x00\x82\x02\x82\x01\x02\x82\x02\x82\x02\x01\x82\x02\x82\x02\x01\x82\x00\x18(\x1a\x00\x0fB@\x00\x18#\x85\x01\x01\x00\x00PReady to generat\xff";
 
 fn run_words(alloc: Global, words: &[&str], input: &[u8], most: usize) -> Result<Made, Fail> {
     Ok(run_on(alloc, &over_input(words, input, most))?)
@@ -49,23 +55,77 @@ fn bundles_are_cut(rt: HostRuntime) -> Result<(), Fail> {
 
 #[test]
 fn fragments_are_joined(rt: HostRuntime) -> Result<(), Fail> {
-    for table in [JOINS, MORE_JOINS] {
+    for table in [JOINS, MORE_JOINS, ALIKE] {
         for line in table.lines() {
-            expect(&rt, case_of(line)?, 4096)?;
-            expect(&rt, case_of(line)?, 7)?;
+            for most in [1, 7, 4096] {
+                expect(&rt, case_of(line)?, most)?;
+            }
         }
     }
     Ok(())
+}
+
+/// A fault of the second bundle: its place counts from the start of the input.
+fn expect_second(
+    rt: &(impl Abort + AllocGlobal),
+    name: &str,
+    second: &[u8],
+    line: &str,
+) -> Result<(), Fail> {
+    let alloc = rt.alloc();
+    let rest = line.strip_prefix("refused bundle place=").ok_or("a fault")?;
+    let (place, reason) = rest.split_once(" ").ok_or("a reason")?;
+    let place: usize = place.parse()?;
+    let place = place.saturating_add(FRAGMENT.len());
+    let line = format!(in alloc; "refused bundle place={place} {reason}\n")?;
+    let mut input = Vec::from_slice(alloc, FRAGMENT)?;
+    input.extend_from_slice(second)?;
+    for most in [1, 7, 4096] {
+        let made = join(alloc, input.as_slice(), most)?;
+        assert_eq!(rt; made.report.as_slice(), line.as_bytes(), "{name}");
+        assert_eq!(rt; made.out.as_slice(), b"".as_slice(), "{name}");
+        assert_eq!(rt; made.status.code(), 3, "{name}");
+    }
+    Ok(())
+}
+
+#[test]
+fn faults_of_a_second_bundle(rt: HostRuntime) -> Result<(), Fail> {
+    let alloc = rt.alloc();
+    for table in [RULES, TOKENS] {
+        for line in table.lines() {
+            let row = fields_of(line)?;
+            let count: usize = row.old.parse()?;
+            let mut second = Vec::from_slice(alloc, PLAIN.get(..count).ok_or("a front")?)?;
+            second.extend_from_slice(hex::decode(alloc, row.new)?.as_slice())?;
+            expect_second(&rt, row.name, second.as_slice(), row.line)?;
+        }
+    }
+    for case in &first_faults() {
+        let (name, second, line) = *case;
+        let line = str::from_utf8(line)?.trim_end();
+        // No bytes are no bundle, and a byte behind one begins another.
+        if !second.is_empty() && !line.ends_with("Trailing") {
+            expect_second(&rt, name, second, line)?;
+        }
+    }
+    Ok(())
+}
+
+/// A bundle with a payload of 256 bytes 7.
+fn sevens(alloc: Global) -> Result<Vec<u8>, Fail> {
+    let mut input = Vec::from_slice(alloc, &PLAIN[..34])?;
+    input.extend_from_slice(b"\x59\x01\x00")?;
+    input.extend_from_slice(&[7; 256])?;
+    input.extend_from_slice(b"\xff")?;
+    Ok(input)
 }
 
 /// 256 fragments in their order are joined; one more isn't taken.
 #[test]
 fn many_fragments_are_joined(rt: HostRuntime) -> Result<(), Fail> {
     let alloc = rt.alloc();
-    let mut input = Vec::from_slice(alloc, &PLAIN[..34])?;
-    input.extend_from_slice(b"\x59\x01\x00")?;
-    input.extend_from_slice(&[7; 256])?;
-    input.extend_from_slice(b"\xff")?;
+    let input = sevens(alloc)?;
     let pieces = cut(alloc, "1", input.as_slice(), 4096)?;
     assert_eq!(rt;
         pieces.report.as_slice(),
@@ -80,6 +140,39 @@ fn many_fragments_are_joined(rt: HostRuntime) -> Result<(), Fail> {
         more.report.as_slice(),
         b"refused pieces reason=TooMany at=-\n".as_slice()
     );
+    Ok(())
+}
+
+/// What follows 256 fragments.
+fn expect_last(
+    rt: &(impl Abort + AllocGlobal),
+    pieces: &[u8],
+    row: Row,
+    most: usize,
+) -> Result<(), Fail> {
+    let alloc = rt.alloc();
+    let name = row.name;
+    let code: u8 = row.new.parse()?;
+    let line = format!(in alloc; "{}\n", row.line)?;
+    let mut input = Vec::from_slice(alloc, pieces)?;
+    input.extend_from_slice(hex::decode(alloc, row.old)?.as_slice())?;
+    let made = join(alloc, input.as_slice(), most)?;
+    assert_eq!(rt; made.report.as_slice(), line.as_bytes(), "{name}");
+    assert_eq!(rt; made.out.as_slice(), b"".as_slice(), "{name}");
+    assert_eq!(rt; made.status.code(), code, "{name}");
+    Ok(())
+}
+
+/// Too many fragments are told after all else.
+#[test]
+fn a_257th_fragment_is_refused(rt: HostRuntime) -> Result<(), Fail> {
+    let alloc = rt.alloc();
+    let pieces = cut(alloc, "1", sevens(alloc)?.as_slice(), 4096)?;
+    for line in LAST.lines() {
+        for most in [1, 7, 4096] {
+            expect_last(&rt, pieces.out.as_slice(), fields_of(line)?, most)?;
+        }
+    }
     Ok(())
 }
 
@@ -107,6 +200,33 @@ fn each_read_may_fail(rt: HostRuntime) -> Result<(), Fail> {
         join_failing(alloc, pieces.out.as_slice(), 3)?.status,
         Status::Done
     );
+    Ok(())
+}
+
+/// Joins the fragments, where the write and the write of the report of these numbers fail.
+fn join_written(alloc: Global, pieces: &[u8], write: u64, report: u64) -> Result<Made, Fail> {
+    let plain = over_input(&["reassemble"], pieces, 4096);
+    let failing = Given {
+        failing_writes: &[write],
+        failing_report_writes: &[report],
+        ..plain
+    };
+    Ok(run_on(alloc, &failing)?)
+}
+
+#[test]
+fn each_write_may_fail(rt: HostRuntime) -> Result<(), Fail> {
+    let alloc = rt.alloc();
+    let pieces = cut(alloc, "16", PLAIN, 4096)?;
+    for (write, report, status, written) in [
+        (0, 9, Status::WriteFault(Writing::Out), b"".as_slice()),
+        (9, 0, Status::WriteFault(Writing::Report), PLAIN),
+        (1, 1, Status::Done, PLAIN),
+    ] {
+        let made = join_written(alloc, pieces.out.as_slice(), write, report)?;
+        assert_eq!(rt; made.status, status);
+        assert_eq!(rt; made.out.as_slice(), written);
+    }
     Ok(())
 }
 

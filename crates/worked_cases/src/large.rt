@@ -9,14 +9,14 @@ use std::test::Fail;
 /// As many bytes as a sink has to have room for.
 const ROOM: usize = 17_000_000;
 
-/// An ordinary bundle before its payload of 3,000,000 bytes, and after it: ids of the scheme dtn, a CRC-32C of the primary
-/// and the payload block, a hop count and a previous node block.
+/// An ordinary bundle before its payload of 3,000,000 bytes, and after it: ids of the scheme dtn, a CRC-32C of the
+/// primary and the payload block, a hop count and a previous node block.
 const FRONT: &[u8] =
     b"\x9f\x89\x07\x00\x02\x82\x01k//earth/ops\x82\x01p//probe-7/imager\x82\x01\x00\x82\x1b\x00\x00\x00\xbaC\xb7@\x00\x01\x1a\x05&\\\x00D\xd4\xb3\x08\x87\x85\n\x02\x00\x00D\x82\x18\x1e\x00\x85\x06\x03\x00\x00E\x82\x02\x82\x03\x00\x86\x01\x01\x00\x02Z\x00-\xc6\xc0";
 
 const BACK: &[u8] = b"D?\xde\xf2y\xff";
 
-fn ordinary(alloc: Global) -> Result<Vec<u8>, Fail> {
+pub fn ordinary(alloc: Global) -> Result<Vec<u8>, Fail> {
     let mut input = Vec::from_slice(alloc, FRONT)?;
     for _ in 0..30 {
         input.extend_from_slice(&[7; 100_000])?;
@@ -64,7 +64,8 @@ fn bundles_are_counted(rt: HostRuntime) -> Result<(), Fail> {
     Ok(())
 }
 
-/// The primary and the payload block signed by HMAC with SHA-384, the payload and its integrity block sealed by AES-256-GCM.
+/// The primary and the payload block signed by HMAC with SHA-384, the payload and its integrity block sealed by
+/// AES-256-GCM.
 const PLAN: &str =
     r#"{"version":1,"items":[{"service":"bib","block":5,"flags":0,"crc":0,"targets":[0],"source":"dtn://probe-7/imager","key":"h","variant":6,"scope":7},{"service":"bib","block":6,"flags":0,"crc":0,"targets":[1],"source":"dtn://probe-7/imager","key":"h","variant":6,"scope":7},{"service":"bcb","block":7,"flags":1,"crc":0,"targets":[1,6],"source":"dtn://probe-7/imager","key":"c","variant":3,"scope":7,"iv":"5477656c7665313231323132","shared_iv":true}]}"#;
 
@@ -122,6 +123,148 @@ fn the_largest_bundle_is_not_secured(rt: HostRuntime) -> Result<(), Fail> {
         b"refused plan reason=TooLong at=-\n".as_slice()
     );
     assert_eq!(rt; made.status.code(), 10);
+    assert_eq!(rt; made.out.as_slice(), b"".as_slice());
+    Ok(())
+}
+
+const POLICY: &str =
+    r#"{"version":1,"node":"ipn:9.1","broken":"keep","default":{"role":"none","failed":"keep","misset":"keep"},"rules":[{"name":"rb","service":"bib","role":"acceptor","key":"h","failed":"keep","misset":"keep"},{"name":"rc","service":"bcb","role":"acceptor","key":"c","failed":"keep","misset":"keep"}],"required":[]}"#;
+
+/// What remains of the ordinary bundle before its payload: its primary and its payload block have no check any more.
+const ACCEPTED: &[u8] =
+    b"\x9f\x88\x07\x00\x00\x82\x01k//earth/ops\x82\x01p//probe-7/imager\x82\x01\x00\x82\x1b\x00\x00\x00\xbaC\xb7@\x00\x01\x1a\x05&\\\x00\x85\n\x02\x00\x00D\x82\x18\x1e\x00\x85\x06\x03\x00\x00E\x82\x02\x82\x03\x00\x85\x01\x01\x00\x00Z\x00-\xc6\xc0";
+
+const ACCEPTED_LINES: &[u8] =
+    b"order bib 5 0 passed\norder bcb 7 1 passed\norder bcb 7 6 passed\norder bib 6 1 passed\nevent 0 bib 5 passed rb keep\nevent 1 bib 6 passed rb keep\nevent 1 bcb 7 passed rc keep\nevent 6 bcb 7 passed rc keep\nresult done bytes=3000089 blocks=3\n";
+
+fn accept(alloc: Global, input: &[u8]) -> Result<Made, Fail> {
+    let words = [
+        "node", "--policy", "policy", "--keys", "ring", "--order", "0",
+    ];
+    let files = over_files(
+        &words,
+        text_file("policy", POLICY),
+        text_file("ring", RING),
+        input,
+    );
+    let large = Given {
+        most: 1_000_000,
+        room: ROOM,
+        ..files
+    };
+    Ok(run_on(alloc, &large)?)
+}
+
+#[test]
+fn an_ordinary_bundle_is_accepted(rt: HostRuntime) -> Result<(), Fail> {
+    let alloc = rt.alloc();
+    let secured = secure(alloc, PLAN, ordinary(alloc)?.as_slice())?;
+    let made = accept(alloc, secured.out.as_slice())?;
+    assert_eq!(rt; made.report.as_slice(), ACCEPTED_LINES);
+    assert_eq!(rt; made.out.as_slice().len(), 3_000_089);
+    let payload = made
+        .out
+        .as_slice()
+        .strip_prefix(ACCEPTED)
+        .ok_or("the front")?;
+    let (end, sevens) = payload.split_last().ok_or("the end")?;
+    assert!(rt; sevens.iter().all(|byte| *byte == 7));
+    assert_eq!(rt; *end, 0xff);
+    Ok(())
+}
+
+/// The fragments from the last to the first. Each is as long as the others, but for the head of the first one's offset,
+/// which has 4 bytes less, and the last one's payload, which has 40 bytes less and a head of 2 bytes less.
+fn reversed(alloc: Global, fragments: &[u8]) -> Result<Vec<u8>, Fail> {
+    let each = fragments.len().saturating_add(46) / 256;
+    let mut reversed = Vec::new(alloc);
+    let mut end = fragments.len();
+    for index in (0..256usize).rev() {
+        let start = each.saturating_mul(index).saturating_sub(4);
+        let fragment = fragments.get(start..end).ok_or("a fragment")?;
+        reversed.extend_from_slice(fragment)?;
+        end = start;
+    }
+    Ok(reversed)
+}
+
+/// The largest bundle is cut into 256 fragments, and joined from the last to the first.
+#[test]
+fn the_largest_bundle_is_cut_and_joined(rt: HostRuntime) -> Result<(), Fail> {
+    let alloc = rt.alloc();
+    let whole = largest(alloc)?;
+    let words = ["fragment", "--size", "65536"];
+    let cut = run_words(alloc, &words, whole.as_slice())?;
+    assert!(rt; cut.report.as_slice().starts_with(b"ok pieces=256 bytes="));
+    let back = reversed(alloc, cut.out.as_slice())?;
+    let joined = run_words(alloc, &["reassemble"], back.as_slice())?;
+    assert_eq!(rt;
+        joined.report.as_slice(),
+        b"ok bytes=16777216 blocks=1\n".as_slice()
+    );
+    assert!(rt; joined.out.as_slice() == whole.as_slice());
+    Ok(())
+}
+
+/// The first fragment is longer than the bundle by the heads of its offset and of the total, 6 bytes in all.
+#[test]
+fn the_first_fragment_may_be_too_long(rt: HostRuntime) -> Result<(), Fail> {
+    let whole = largest(rt.alloc())?;
+    for (size, line) in [
+        ("0", b"refused pieces reason=PieceZero at=-\n".as_slice()),
+        ("65535", b"refused pieces reason=TooMany at=-\n"),
+        ("16777170", b"ok pieces=2 bytes=16777268\n"),
+        ("16777171", b"refused pieces reason=TooLong at=-\n"),
+        ("16777216", b"refused pieces reason=TooLong at=-\n"),
+    ] {
+        let words = ["fragment", "--size", size];
+        let made = run_words(rt.alloc(), &words, whole.as_slice())?;
+        assert_eq!(rt; made.report.as_slice(), line, "{size}");
+    }
+    Ok(())
+}
+
+/// The heads of the offset, of a total of 16,777,177 bytes and of a payload; so many tens of bytes, and so many more;
+/// and the end.
+fn half(
+    offset: &[u8],
+    payload: &[u8],
+    tens: usize,
+    more: usize,
+    out: &mut Vec<u8>,
+) -> Result<(), Fail> {
+    out.extend_from_slice(b"\x9f\x8a\x07\x01")?;
+    out.extend_from_slice(PLAIN.get(4..29).ok_or("a primary block")?)?;
+    out.extend_from_slice(offset)?;
+    out.extend_from_slice(b"\x1a\x00\xff\xff\xd9\x85\x01\x01\x00\x00")?;
+    out.extend_from_slice(payload)?;
+    for _ in 0..tens {
+        out.extend_from_slice(&[7; 10])?;
+    }
+    for _ in 0..more {
+        out.extend_from_slice(&[7])?;
+    }
+    out.extend_from_slice(b"\xff")?;
+    Ok(())
+}
+
+/// What two fragments of 8,388,608 and 8,388,569 bytes have together is a byte more than a bundle holds.
+#[test]
+fn what_is_joined_may_be_too_long(rt: HostRuntime) -> Result<(), Fail> {
+    let mut input = Vec::new(rt.alloc());
+    half(b"\x00", b"\x5a\x00\x80\x00\x00", 838_860, 8, &mut input)?;
+    half(
+        b"\x1a\x00\x80\x00\x00",
+        b"\x5a\x00\x7f\xff\xd9",
+        838_856,
+        9,
+        &mut input,
+    )?;
+    let made = run_words(rt.alloc(), &["reassemble"], input.as_slice())?;
+    assert_eq!(rt;
+        made.report.as_slice(),
+        b"refused pieces reason=TooLong at=-\n".as_slice()
+    );
     assert_eq!(rt; made.out.as_slice(), b"".as_slice());
     Ok(())
 }

@@ -1,7 +1,11 @@
 //! `upgrade`.
 
-use crate::build::with;
+use crate::build::{filled, with};
 use crate::policies::{FIRST, KEPT, REFUSALS, SECOND, SECOND_REFUSALS, UPGRADED};
+use crate::policy_texts::{
+    KEPT as MORE_KEPT, REFUSALS as MORE_REFUSALS, SECOND_REFUSALS as MORE_SECOND_REFUSALS,
+    UPGRADED as MORE_UPGRADED,
+};
 use crate::rows::{Row, fields_of};
 use crate::runs::{Given, Made, over_file, run_on, text_file};
 use bpsec_command::Status;
@@ -35,11 +39,15 @@ fn expect_refusal(rt: &(impl Abort + AllocGlobal), policy: &str, case: Row) -> R
 
 #[test]
 fn policies_are_refused(rt: HostRuntime) -> Result<(), Fail> {
-    for line in REFUSALS.lines() {
-        expect_refusal(&rt, FIRST, fields_of(line)?)?;
-    }
-    for line in SECOND_REFUSALS.lines() {
-        expect_refusal(&rt, SECOND, fields_of(line)?)?;
+    for (policy, table) in [
+        (FIRST, REFUSALS),
+        (FIRST, MORE_REFUSALS),
+        (SECOND, SECOND_REFUSALS),
+        (SECOND, MORE_SECOND_REFUSALS),
+    ] {
+        for line in table.lines() {
+            expect_refusal(&rt, policy, fields_of(line)?)?;
+        }
     }
     Ok(())
 }
@@ -68,11 +76,15 @@ fn policies_are_written(rt: HostRuntime) -> Result<(), Fail> {
         FIRST,
         br#"{"broken":"keep","default":{"failed":"keep","misset":"keep","role":"none"},"node":"ipn:9.1","required":[],"rules":[{"failed":"keep","key":"k1","misset":"keep","name":"rb","role":"acceptor","service":"bib"},{"failed":"keep","key":"cek","misset":"keep","name":"rc","role":"acceptor","service":"bcb"}],"version":2}"#,
     )?;
-    for line in UPGRADED.lines() {
-        expect_row(&rt, FIRST, fields_of(line)?)?;
-    }
-    for line in KEPT.lines() {
-        expect_row(&rt, SECOND, fields_of(line)?)?;
+    for (policy, table) in [
+        (FIRST, UPGRADED),
+        (FIRST, MORE_UPGRADED),
+        (SECOND, KEPT),
+        (SECOND, MORE_KEPT),
+    ] {
+        for line in table.lines() {
+            expect_row(&rt, policy, fields_of(line)?)?;
+        }
     }
     Ok(())
 }
@@ -114,6 +126,60 @@ fn a_policy_has_256_rules_and_64_requirements_at_most(rt: HostRuntime) -> Result
         let made = upgrade(alloc, many(alloc, rules, required)?.as_str())?;
         assert_eq!(rt; made.status.code(), code);
         assert_eq!(rt; made.report.as_slice(), report);
+    }
+    Ok(())
+}
+
+/// Whole texts, and the reasons for which they are refused.
+const WHOLE: [(&str, &str); 10] = [
+    ("", "NotJson"),
+    ("[", "NotJson"),
+    ("{\"version\":1", "NotJson"),
+    ("\u{feff}{}", "NotJson"),
+    ("{\"version\":NaN}", "NotJson"),
+    ("null", "WrongShape"),
+    ("[]", "WrongShape"),
+    ("{}", "WrongShape"),
+    ("{\"version\":2}", "WrongShape"),
+    ("{\"version\":3}", "Version"),
+];
+
+/// A whole text is refused so, at no entry.
+fn expect_reason(rt: &(impl Abort + AllocGlobal), policy: &str, reason: &str) -> Result<(), Fail> {
+    let made = upgrade(rt.alloc(), policy)?;
+    let line = format!(in rt.alloc(); "refused policy entry=- reason={reason}\n")?;
+    assert_eq!(rt; made.report.as_slice(), line.as_bytes());
+    assert_eq!(rt; made.out.as_slice(), b"".as_slice());
+    assert_eq!(rt; made.status.code(), 4);
+    Ok(())
+}
+
+#[test]
+fn whole_texts_are_refused(rt: HostRuntime) -> Result<(), Fail> {
+    let alloc = rt.alloc();
+    for (policy, reason) in &WHOLE {
+        expect_reason(&rt, policy, reason)?;
+    }
+    let most = filled(alloc, FIRST, 1_048_576)?;
+    assert_eq!(rt; upgrade(alloc, most.as_str())?.status, Status::Done);
+    let more = filled(alloc, "[", 1_048_577)?;
+    expect_reason(&rt, more.as_str(), "TooLong")
+}
+
+/// Too many rules or requirements come after the keys of the whole text, and before what its own fields say.
+#[test]
+fn lists_are_counted_in_their_turn(rt: HostRuntime) -> Result<(), Fail> {
+    let alloc = rt.alloc();
+    for (rules, required, old, new, reason) in [
+        (257, 0, "ipn:9.1", "ipn:9", "TooMany"),
+        (0, 65, "\"role\":\"none\"", "\"role\":0", "TooMany"),
+        (257, 65, "\"name\":\"r0\"", "\"name\":0", "TooMany"),
+        (257, 0, "\"broken\":\"keep\",", "", "WrongShape"),
+        (0, 65, "\"version\":2", "\"version\":0", "Version"),
+        (256, 64, "ipn:9.1", "ipn:9", "UnknownWord"),
+    ] {
+        let policy = with(alloc, many(alloc, rules, required)?.as_str(), old, new)?;
+        expect_reason(&rt, policy.as_str(), reason)?;
     }
     Ok(())
 }
