@@ -23,6 +23,8 @@ mod session;
 mod site;
 mod step;
 #[cfg(test)]
+mod step_tests;
+#[cfg(test)]
 mod tests;
 
 pub use begin::BeginFault;
