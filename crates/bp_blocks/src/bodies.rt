@@ -19,6 +19,7 @@ use std::fmt;
 pub enum BodyFault {
     /// It is no id, or an id and more.
     Unreadable,
+    /// No memory was left.
     NoMemory,
 }
 

@@ -1,5 +1,6 @@
 -- The text of a bundle: `version` (1), `primary` (an object), `blocks` (1 to 64 objects). The form is this project's own.
 use Rattle.std.specs.Prelude.{◌≡◌, ℕ, ◌==◌, ◌&&◌, Bool, true, false, if◌then◌else◌, List, [], ◌∷◌, codes, Option, Some, None, is_some, Result, Ok, Err, refl}
+use Rattle.cbor_profile.specs.Step.{◌>>=◌}
 use Rattle.serde_json.specs.Data.{Data}
 use Rattle.serde_json.specs.Find.{get}
 use Rattle.bp_eid.specs.declared.eid.Eid.{Eid}
@@ -17,7 +18,7 @@ use Rattle.bp_text.specs.declared.fault.TextReason.{TextReason}
 use Rattle.bp_text.specs.declared.fault.TextReason.TheVariants.{WrongShape, TooMany, NotABundle}
 use Rattle.bp_text.specs.declared.fault.TextFault.{TextFault}
 use Rattle.bp_text.specs.declared.shape.Kind.TheVariants.{Text, Number, Object, Array}
-use Rattle.bp_text.specs.Fault.{◌>>=◌, unless, wanted, top}
+use Rattle.bp_text.specs.Fault.{unless, wanted, top}
 use Rattle.bp_text.specs.Tree.{tree_of, number_at, list_at}
 use Rattle.bp_text.specs.Shape.{has, has_only, passes}
 use Rattle.bp_text.specs.Field.{eid_at, hex_at, whole_at}

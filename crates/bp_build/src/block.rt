@@ -1,8 +1,9 @@
 //! Reading canonical blocks from the trees of their texts.
 
 ghost use Rattle.std.specs.Prelude.{◌≡◌, IfOk};
+ghost use Rattle.cbor_profile.specs.Step.{Gives};
 ghost use Rattle.serde_json.specs.View.{view};
-ghost use Rattle.bp_text.specs.Fault.{GivesField};
+ghost use Rattle.bp_text.specs.Fault.{IsFieldFault};
 ghost use Rattle.bp_build.specs.BuildText.{has_block_keys, is_block_shape, block_at};
 
 use crate::primary::check_of;

@@ -1,8 +1,9 @@
 //! Building bundles from texts.
 
 ghost use Rattle.std.specs.Prelude.{◌≡◌, [], map};
+ghost use Rattle.cbor_profile.specs.Step.{Gives};
 ghost use Rattle.serde_json.specs.View.{view};
-ghost use Rattle.bp_text.specs.Fault.{Gives};
+ghost use Rattle.bp_text.specs.Fault.{IsTextError};
 ghost use Rattle.bp_text.specs.Entries.{entries_at};
 ghost use Rattle.bp_build.specs.BuildText.{is_build_shape, index_of, bundle_of, block_at, build_at, build_of};
 
@@ -44,7 +45,7 @@ fn index_of(fault: ShapeFault) -> Option<u64>
 
 /// The bundle of these blocks, or NotABundle. Takes no memory.
 fn bundle_of(primary: Primary, blocks: List<Block>) -> Result<Bundle, TextError>
-    ensures { Gives (λ bundle. bundle) result (bundle_of (record { primary = primary; blocks = blocks })) }
+    ensures { Gives IsTextError (λ bundle. bundle) result (bundle_of (record { primary = primary; blocks = blocks })) }
 {
     match Bundle::of(primary, blocks) {
         Ok(bundle) => Ok(bundle),
@@ -57,7 +58,7 @@ fn bundle_of(primary: Primary, blocks: List<Block>) -> Result<Bundle, TextError>
 
 /// The blocks of a list.
 fn read_blocks(alloc: Global, values: &[Value]) -> Result<List<Block>, TextError>
-    ensures { Gives (λ blocks. blocks) result (entries_at block_at 0 [] (map view values.now)) }
+    ensures { Gives IsTextError (λ blocks. blocks) result (entries_at block_at 0 [] (map view values.now)) }
 {
     let mut names = Names::new(alloc);
     match read_entries(alloc, 1, values, 0, &mut names) {
@@ -72,7 +73,7 @@ fn read_blocks(alloc: Global, values: &[Value]) -> Result<List<Block>, TextError
 /// The bundle of a tree.
 #[tactic(auto, unfolding(crate::specs::BuildText::build_at))]
 fn of_tree(alloc: Global, tree: &Value) -> Result<Bundle, TextError>
-    ensures { Gives (λ bundle. bundle) result (build_at (view tree.now)) }
+    ensures { Gives IsTextError (λ bundle. bundle) result (build_at (view tree.now)) }
 {
     match version_field(tree, &[1]) {
         Ok(_) => {}
@@ -102,7 +103,7 @@ fn of_tree(alloc: Global, tree: &Value) -> Result<Bundle, TextError>
 
 /// The bundle whose text this is, or the first fault.
 pub fn bundle_from_json(alloc: Global, bytes: &[u8]) -> Result<Bundle, TextError>
-    ensures { Gives (λ bundle. bundle) result (build_of bytes.now) }
+    ensures { Gives IsTextError (λ bundle. bundle) result (build_of bytes.now) }
 {
     let tree = match read_tree(alloc, bytes) {
         Ok(tree) => tree,

@@ -1,8 +1,9 @@
 //! Reading primary blocks from the trees of their texts.
 
 ghost use Rattle.std.specs.Prelude.{◌≡◌, codes};
+ghost use Rattle.cbor_profile.specs.Step.{Gives};
 ghost use Rattle.serde_json.specs.View.{view};
-ghost use Rattle.bp_text.specs.Fault.{GivesField};
+ghost use Rattle.bp_text.specs.Fault.{IsFieldFault};
 ghost use Rattle.bp_build.specs.BuildText.{check_of, has_nodes, has_times, has_place, has_whole_keys, has_fragment_keys, is_of_fragment, has_keys, is_primary_shape, nodes_at, times_at, place_at, place_if, primary_of, primary_at};
 
 use bp_crc::CheckKind;
@@ -118,7 +119,7 @@ fn is_primary_shape(tree: &Value) -> bool
 /// Destination, source and report-to.
 #[tactic(auto, unfolding(crate::specs::BuildText::nodes_at))]
 fn read_nodes(alloc: Global, tree: &Value) -> Result<(Eid, Eid, Eid), FieldFault>
-    ensures { GivesField (λ nodes. nodes) result (nodes_at (view tree.now)) }
+    ensures { Gives IsFieldFault (λ nodes. nodes) result (nodes_at (view tree.now)) }
 {
     let destination = eid_field(alloc, tree, "to")?;
     let source = eid_field(alloc, tree, "from")?;
@@ -129,7 +130,7 @@ fn read_nodes(alloc: Global, tree: &Value) -> Result<(Eid, Eid, Eid), FieldFault
 /// Creation time, sequence number and lifetime.
 #[tactic(auto, unfolding(crate::specs::BuildText::times_at))]
 fn read_times(alloc: Global, tree: &Value) -> Result<(u64, u64, u64), FieldFault>
-    ensures { GivesField (λ times. times) result (times_at (view tree.now)) }
+    ensures { Gives IsFieldFault (λ times. times) result (times_at (view tree.now)) }
 {
     let created = Field::read(alloc, tree, "created")?;
     let sequence = Field::read(alloc, tree, "sequence")?;
@@ -140,7 +141,7 @@ fn read_times(alloc: Global, tree: &Value) -> Result<(u64, u64, u64), FieldFault
 /// The place of a fragment; of another bundle, where nothing is read, zeros.
 #[tactic(auto, unfolding(crate::specs::BuildText::place_at))]
 fn read_place(alloc: Global, fragmented: bool, tree: &Value) -> Result<Piece, FieldFault>
-    ensures { GivesField (λ place. place) result (place_at fragmented (view tree.now)) }
+    ensures { Gives IsFieldFault (λ place. place) result (place_at fragmented (view tree.now)) }
 {
     if !fragmented {
         return Ok(Piece {
@@ -188,7 +189,7 @@ fn primary_of(
 /// A primary block.
 #[tactic(auto, unfolding(crate::specs::BuildText::primary_at))]
 pub(crate) fn read_primary(alloc: Global, tree: &Value) -> Result<Primary, FieldFault>
-    ensures { GivesField (λ primary. primary) result (primary_at (view tree.now)) }
+    ensures { Gives IsFieldFault (λ primary. primary) result (primary_at (view tree.now)) }
 {
     if !is_primary_shape(tree) {
         return Err(FieldFault::WrongShape);

@@ -1,20 +1,20 @@
 -- What is spelled as a bundle is read as that bundle, whatever follows it.
-use Rattle.std.proofs.Common.{◌≡◌, ◌≢◌, ℕ, zero, suc, ◌+◌, ◌-◌, ◌%◌, ◌^◌, ◌<◌, ◌≤◌, Bool, true, false, not, cond, ltb, leb, eqb, ◌&&◌, ◌||◌, is_some, List, [], ◌∷◌, ◌++◌, length, get_or, take, drop, Option, Some, None, Result, Ok, Err, refl, sym, ◌∙◌, ap, subst, append_assoc, append-nil, add-zero, arith}
+use Rattle.std.proofs.Common.{◌≡◌, ℕ, zero, suc, ◌+◌, ◌-◌, ◌%◌, ◌^◌, ◌<◌, ◌≤◌, Bool, true, false, not, cond, ltb, leb, eqb, ◌&&◌, ◌||◌, is_some, List, [], ◌∷◌, ◌++◌, length, Option, Some, None, Result, Ok, refl, sym, ◌∙◌, ap, subst, append_assoc, add-zero, arith}
 use Rattle.std.proofs.Math.Bool.{Bool-set}
 use Rattle.std.specs.Prelude.{bytes_eq}
 use Rattle.std.specs.List.{All, AllPairs, HoldsAt, flat_map}
 use Rattle.std.specs.Option.{ForSome}
-use Rattle.std.proofs.lemmas.Bool.{le-ltb, lt-ltb, eq-eqb, eqb-true, or_parts, and_parts, le-leb}
+use Rattle.std.proofs.lemmas.Bool.{le-ltb, lt-ltb, eq-eqb, eqb-true, or_parts, le-leb}
 use Rattle.std.proofs.lemmas.List.{length-append, take_at, drop_at}
 use Rattle.std.proofs.lemmas.Slice.Eq.{bytes_eq-Decides}
 use Rattle.cbor_profile.specs.Head.{head_spelling}
 use Rattle.cbor_profile.specs.Put.{uint, array_head, byte_string}
+use Rattle.cbor_profile.specs.Step.{◌>>=◌}
 use Rattle.cbor_profile.specs.declared.TheConstants.{BUNDLE_LIMIT}
 use Rattle.cbor_profile.specs.declared.fault.Fault.{Fault}
 use Rattle.bp_crc.specs.declared.kind.CheckKind.{CheckKind}
 use Rattle.bp_crc.specs.declared.kind.CheckKind.TheVariants as kinds
 use Rattle.bp_crc.specs.Item.{check_type, check_count, check_item, zeros}
-use Rattle.bp_crc.specs.Check.{check_bytes}
 use Rattle.bp_eid.specs.declared.eid.Eid.{Eid}
 use Rattle.bp_eid.specs.EndpointId as ids
 use Rattle.bp_eid.specs.Reading as reading
@@ -31,13 +31,13 @@ use Rattle.bp_bundle.specs.declared.header.Header.{Header}
 use Rattle.bp_bundle.specs.declared.token.Token.TheVariants as tokens
 use Rattle.bp_bundle.specs.Shape.{Contents}
 use Rattle.bp_bundle.specs.Spelling.{IsPayload, IsNumbered, IsBundle, spelling}
-use Rattle.bp_bundle.specs.Faults.{exactly, may_have, has_number, has_single, is_repeated, repeated_from, is_payload, is_misnumbered}
-use Rattle.bp_bundle.specs.Tokens.{Cursor, ◌>>=◌, stops, conditions, first_failing, argument_at}
-use Rattle.bp_bundle.specs.FirstFault.{past, content_at, id_at, kind_of, check_type_at, check_string_at, check_at, Nodes, nodes_at, Times, times_at, piece_at, piece_if, piece_if_flag, primary_of, primary_check, fields_at, primary_at, header_at, block_of, block_check, next_at, closed_at, blocks_at, end_at, begin_at, front_at, bundle_at}
-use Rattle.bp_bundle.proofs.Arguments.{here, head_of, text_of, argument_again}
+use Rattle.bp_bundle.specs.Faults.{exactly, may_have, has_number, has_single, is_repeated, repeated_from, is_payload}
+use Rattle.bp_bundle.specs.Tokens.{Cursor, conditions, first_failing, argument_at}
+use Rattle.bp_bundle.specs.FirstFault.{content_at, id_at, kind_of, check_type_at, check_string_at, check_at, Nodes, nodes_at, Times, times_at, piece_at, piece_if, piece_if_flag, primary_of, primary_check, fields_at, primary_at, header_at, block_of, block_check, next_at, blocks_at, end_at, begin_at, front_at, bundle_at}
+use Rattle.bp_bundle.proofs.Arguments.{here, argument_again}
 use Rattle.bp_bundle.proofs.PrimaryMeans.{Laws, check_size}
 use Rattle.bp_bundle.proofs.BlocksMeans.{header_text, block_text}
-use Rattle.bp_bundle.proofs.Shapes.{Differ, Once}
+use Rattle.bp_bundle.proofs.Shapes.{Differ}
 use Rattle.bp_bundle.proofs.Unfaulted.{well_numbered, none_repeated, is_payload_true}
 
 -- a step that goes on

@@ -4,6 +4,7 @@ use Rattle.std.specs.Prelude.{bytes_eq, replicate}
 use Rattle.std.proofs.lemmas.Bool.{eqb-true, ltb-true, or_from}
 use Rattle.cbor_profile.specs.Head.{head_spelling}
 use Rattle.cbor_profile.specs.Put.{uint, array_head, byte_string}
+use Rattle.cbor_profile.specs.Step.{◌>>=◌}
 use Rattle.cbor_profile.specs.declared.fault.Fault.{Fault}
 use Rattle.cbor_profile.specs.declared.fault.Reason.TheVariants as reasons
 use Rattle.bp_crc.specs.declared.kind.CheckKind.{CheckKind}
@@ -15,7 +16,7 @@ use Rattle.bp_blocks.specs.Spelling.{IsBlock}
 use Rattle.bp_bundle.specs.declared.header.Header.{Header}
 use Rattle.bp_bundle.specs.declared.token.Token.TheVariants as tokens
 use Rattle.bp_bundle.specs.Faults.{may_have, has_number, has_single, is_repeated}
-use Rattle.bp_bundle.specs.Tokens.{Cursor, ◌>>=◌, stops, argument_at}
+use Rattle.bp_bundle.specs.Tokens.{Cursor, stops, argument_at}
 use Rattle.bp_bundle.specs.FirstFault.{content_at, kind_of, check_type_at, check_string_at, check_at, header_at, block_of, block_check}
 use Rattle.bp_bundle.proofs.Arguments.{IsBytes, took-then, took-same}
 use Rattle.bp_bundle.proofs.PrimaryMeans.{Laws, first_holds, content_means, check_type_means, check_size}

@@ -1,19 +1,18 @@
 -- What is read as canonical blocks, or as a bundle, is spelled so and keeps the rules.
-use Rattle.std.proofs.Common.{◌≡◌, ◌≢◌, ◌↔◌, ℕ, zero, suc, ◌+◌, ◌-◌, ◌^◌, ◌<◌, ◌≤◌, Bool, true, false, not, cond, ltb, leb, eqb, ◌&&◌, ◌||◌, List, [], ◌∷◌, ◌++◌, length, get_or, take, drop, Option, Some, None, Result, Ok, Err, refl, sym, ◌∙◌, ap, subst, append_assoc, append-nil, arith}
+use Rattle.std.proofs.Common.{◌≡◌, ℕ, zero, suc, ◌+◌, ◌-◌, ◌^◌, ◌<◌, ◌≤◌, Bool, true, false, not, cond, ltb, eqb, ◌||◌, List, [], ◌∷◌, ◌++◌, length, get_or, None, Ok, refl, sym, ◌∙◌, ap, subst, append_assoc, append-nil, arith}
 use Rattle.std.specs.Prelude.{bytes_eq}
 use Rattle.std.specs.List.{All, HoldsAt, flat_map}
 use Rattle.std.proofs.lemmas.Bool.{ltb-true, eqb-true, or_from}
 use Rattle.std.proofs.lemmas.List.{length-append}
 use Rattle.cbor_profile.specs.Head.{head_spelling}
 use Rattle.cbor_profile.specs.Put.{uint, array_head, byte_string}
+use Rattle.cbor_profile.specs.Step.{◌>>=◌}
 use Rattle.cbor_profile.specs.declared.TheConstants.{BUNDLE_LIMIT}
-use Rattle.cbor_profile.specs.declared.fault.Fault.{Fault}
 use Rattle.cbor_profile.specs.declared.fault.Reason.{Reason}
 use Rattle.cbor_profile.specs.declared.fault.Reason.TheVariants as reasons
 use Rattle.bp_crc.specs.declared.kind.CheckKind.{CheckKind}
 use Rattle.bp_crc.specs.declared.kind.CheckKind.TheVariants as kinds
-use Rattle.bp_crc.specs.Item.{check_type, check_count, check_item, zeros}
-use Rattle.bp_crc.specs.Check.{check_bytes}
+use Rattle.bp_crc.specs.Item.{check_type, check_count, check_item}
 use Rattle.bp_primary.specs.declared.primary.Primary.{Primary}
 use Rattle.bp_primary.specs.Spelling as primaries
 use Rattle.bp_blocks.specs.declared.block.Block.{Block}
@@ -24,11 +23,11 @@ use Rattle.bp_bundle.specs.declared.token.Token.TheVariants as tokens
 use Rattle.bp_bundle.specs.Shape.{Contents}
 use Rattle.bp_bundle.specs.Spelling.{IsPayload, IsNumbered, IsBundle, spelling}
 use Rattle.bp_bundle.specs.Faults.{may_have, has_number, has_single, is_repeated, repeated_from, is_payload}
-use Rattle.bp_bundle.specs.Tokens.{Cursor, ◌>>=◌, stops, conditions, first_failing, argument_at}
-use Rattle.bp_bundle.specs.FirstFault.{past, content_at, check_type_at, check_string_at, check_at, primary_at, header_at, block_of, block_check, next_at, closed_at, blocks_at, end_at, begin_at, after_byte, bundle_at, front_at}
-use Rattle.bp_bundle.proofs.Arguments.{IsBytes, bind_ok, ok_is, passed, Took, took-then, took-same, argument_means}
-use Rattle.bp_bundle.proofs.PrimaryMeans.{Laws, first_holds, content_means, check_type_means, check_means, check_size, number_means, take_drop_bytes, primary_means}
-use Rattle.bp_bundle.proofs.Shapes.{Differ, Once, Keeps, numbered_is, all_differ, payload_is}
+use Rattle.bp_bundle.specs.Tokens.{Cursor, stops, argument_at}
+use Rattle.bp_bundle.specs.FirstFault.{content_at, check_type_at, check_string_at, check_at, primary_at, header_at, block_of, block_check, blocks_at, end_at, begin_at, after_byte, bundle_at, front_at}
+use Rattle.bp_bundle.proofs.Arguments.{IsBytes, bind_ok, ok_is, Took, took-then, took-same, argument_means}
+use Rattle.bp_bundle.proofs.PrimaryMeans.{Laws, first_holds, content_means, check_type_means, check_means, check_size, primary_means}
+use Rattle.bp_bundle.proofs.Shapes.{numbered_is, all_differ, payload_is}
 
 pub not_true : (b : Bool) → not b ≡ true → b ≡ false
 not_true true is = absurd cc

@@ -4,6 +4,7 @@ use Rattle.std.specs.List.{All, HoldsAt, flat_map}
 use Rattle.std.proofs.lemmas.Bool.{or_from}
 use Rattle.cbor_profile.specs.declared.fault.Fault.{Fault}
 use Rattle.cbor_profile.specs.declared.fault.Reason.TheVariants as reasons
+use Rattle.cbor_profile.specs.Step.{◌>>=◌}
 use Rattle.bp_crc.specs.declared.kind.CheckKind.TheVariants as kinds
 use Rattle.bp_blocks.specs.declared.block.Block.{Block}
 use Rattle.bp_blocks.specs.Spelling as blocks
@@ -11,7 +12,7 @@ use Rattle.bp_blocks.specs.Spelling.{IsBlock}
 use Rattle.bp_bundle.specs.declared.header.Header.{Header}
 use Rattle.bp_bundle.specs.Spelling.{IsPayload, IsNumbered}
 use Rattle.bp_bundle.specs.Faults.{has_number, has_single, repeated_from, is_payload}
-use Rattle.bp_bundle.specs.Tokens.{Cursor, ◌>>=◌, stops}
+use Rattle.bp_bundle.specs.Tokens.{Cursor, stops}
 use Rattle.bp_bundle.specs.FirstFault.{past, after_byte, content_at, check_at, header_at, block_of, block_check, next_at, closed_at, blocks_at, end_at}
 use Rattle.bp_bundle.proofs.Arguments.{IsBytes}
 use Rattle.bp_bundle.proofs.PrimaryMeans.{Laws}

@@ -1,7 +1,8 @@
 -- Reading stays within the bundle limit: what is there of a bundle whose bytes end too early is at most a few bytes more.
-use Rattle.std.proofs.Common.{◌≡◌, ◌≢◌, ℕ, zero, suc, ◌+◌, ◌-◌, ◌%◌, ◌≤◌, ◌<◌, Bool, true, false, cond, ltb, eqb, List, [], ◌∷◌, ◌++◌, length, take, drop, Option, Some, None, Result, Ok, Err, refl, sym, ◌∙◌, ap, subst, arith, length-drop}
+use Rattle.std.proofs.Common.{◌≡◌, ℕ, zero, suc, ◌+◌, ◌-◌, ◌%◌, ◌≤◌, ◌<◌, Bool, true, false, cond, ltb, eqb, List, [], ◌∷◌, ◌++◌, length, take, Option, Some, None, Result, Ok, Err, refl, ◌∙◌, ap, subst, arith, length-drop}
 use Rattle.std.specs.Prelude.{bytes_eq}
 use Rattle.std.proofs.lemmas.Bool.{ltb-false, ltb-true}
+use Rattle.cbor_profile.specs.Step.{◌>>=◌}
 use Rattle.cbor_profile.specs.declared.TheConstants.{BUNDLE_LIMIT}
 use Rattle.cbor_profile.specs.declared.head.Head.{Head}
 use Rattle.cbor_profile.specs.declared.fault.Reason.{Reason}
@@ -22,12 +23,12 @@ use Rattle.bp_bundle.specs.declared.token.Token.TheVariants as tokens
 use Rattle.bp_bundle.specs.declared.header.Header.{Header}
 use Rattle.bp_bundle.specs.Shape.{Contents}
 use Rattle.bp_bundle.specs.Faults.{is_payload}
-use Rattle.bp_bundle.specs.Tokens.{Cursor, place_of, fault_at, stops, ◌>>=◌, major_of, conditions, first_failing, announced, up_to, after_conditions, after_head, argument_at}
-use Rattle.bp_bundle.specs.FirstFault.{past, after_byte, begin_at, end_at, content_at, after_id, id_at, kind_of, check_type_at, check_string_at, check_at, Nodes, nodes_at, Times, times_at, piece_at, primary_of, primary_check, fields_at, primary_at, header_at, block_of, block_check, next_at, closed_at, blocks_at, front_at, bundle_at, read_bundle}
+use Rattle.bp_bundle.specs.Tokens.{Cursor, stops, major_of, conditions, first_failing, announced, up_to, after_conditions, after_head, argument_at}
+use Rattle.bp_bundle.specs.FirstFault.{past, after_byte, begin_at, end_at, content_at, after_id, id_at, kind_of, check_type_at, check_string_at, check_at, Nodes, nodes_at, Times, times_at, piece_at, primary_of, primary_check, fields_at, primary_at, header_at, block_of, block_check, next_at, blocks_at, front_at, bundle_at, read_bundle}
 use Rattle.bp_bundle.proofs.Short.{token_short_ok, token_short_early, read_id_short, read_id_early}
 use Rattle.bp_bundle.proofs.Shorter.{token_shorter}
 use Rattle.bp_bundle.proofs.Growing.{id_len}
-use Rattle.bp_bundle.proofs.Ending.{given, second, itself}
+use Rattle.bp_bundle.proofs.Ending.{given}
 use Rattle.bp_bundle.proofs.Majors.{head_major}
 
 -- what was read is good; and where bytes end too early, fewer are given than the limit and 8 more

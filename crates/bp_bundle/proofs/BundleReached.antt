@@ -3,13 +3,14 @@ use Rattle.std.proofs.Common.{◌≡◌, ◌≢◌, ℕ, Bool, true, false, cond
 use Rattle.std.proofs.lemmas.List.{length-append, take_at, drop_at}
 use Rattle.cbor_profile.specs.declared.fault.Fault.{Fault}
 use Rattle.cbor_profile.specs.declared.fault.Reason.TheVariants as reasons
+use Rattle.cbor_profile.specs.Step.{◌>>=◌}
 use Rattle.bp_primary.specs.declared.primary.Primary.{Primary}
 use Rattle.bp_primary.specs.Spelling as primaries
 use Rattle.bp_primary.specs.Spelling.{IsPrimary}
 use Rattle.bp_blocks.specs.declared.block.Block.{Block}
 use Rattle.bp_bundle.specs.Shape.{Contents}
 use Rattle.bp_bundle.specs.Spelling.{IsBundle}
-use Rattle.bp_bundle.specs.Tokens.{Cursor, ◌>>=◌, stops}
+use Rattle.bp_bundle.specs.Tokens.{Cursor, stops}
 use Rattle.bp_bundle.specs.FirstFault.{past, after_byte, begin_at, primary_at, blocks_at, front_at, bundle_at, read_bundle}
 use Rattle.bp_bundle.specs.Prefix.{IsUnlimited, IsSpelled, IsCorrect, IsUnfinished, IsCut}
 use Rattle.bp_bundle.proofs.Arguments.{IsBytes, here}

@@ -1,8 +1,9 @@
 -- How many bytes a block has with another check.
-use Rattle.std.proofs.Common.{◌≡◌, ◌≢◌, ℕ, zero, suc, ◌+◌, ◌<◌, ◌≤◌, Bool, true, false, cond, eqb, List, [], ◌∷◌, ◌++◌, length, map, get_or, Option, Some, refl, sym, ◌∙◌, ap, subst, arith, eq-eqb, length-append}
+use Rattle.std.proofs.Common.{◌≡◌, ◌≢◌, ℕ, zero, suc, ◌+◌, ◌<◌, ◌≤◌, Bool, true, false, cond, eqb, List, [], ◌∷◌, length, map, get_or, Some, refl, sym, ◌∙◌, ap, arith, eq-eqb, length-append}
 use Rattle.std.specs.List.{All, AllPairs, slice_get}
 use Rattle.std.proofs.lemmas.Bool.{eqb-true, false_from_ne_true}
 use Rattle.cbor_profile.specs.Put.{uint, byte_string, array_head}
+use Rattle.cbor_profile.proofs.Sizes.{head_one}
 use Rattle.bp_crc.specs.declared.kind.CheckKind.{CheckKind}
 use Rattle.bp_crc.specs.declared.kind.CheckKind.TheVariants as kinds
 use Rattle.bp_crc.specs.Item.{check_type, check_count, check_item, zeros}
@@ -11,7 +12,7 @@ use Rattle.bp_primary.specs.Fragment.{fragment_count, fragment_items}
 use Rattle.bp_primary.specs.Spelling as primaries
 use Rattle.bp_primary.specs.Spelling.{front, nodes, times}
 use Rattle.bp_primary.proofs.Pieces as primary_pieces
-use Rattle.bp_primary.proofs.Pieces.{small_head, few_items, small_type}
+use Rattle.bp_primary.proofs.Pieces.{few_items, small_type}
 use Rattle.bp_blocks.specs.declared.block.Block.{Block}
 use Rattle.bp_blocks.specs.Spelling as blocks
 use Rattle.bp_blocks.proofs.Pieces as block_pieces
@@ -36,7 +37,7 @@ few_checks kinds.Crc32c = omega arith
 
 number_size : (n : ℕ) → n < 24 → length (uint n) ≡ 1
 unfolding uint
-number_size n small = small_head 0 n small
+number_size n small = head_one 0 n small
 
 -- ---- one block
 
@@ -47,7 +48,7 @@ block_base block = 2 + length (uint block.kind) + length (uint block.number) + l
 block_size : (block : Block) → length (blocks.spelling block) ≡ block_base block + check_size block.crc
 unfolding blocks.array_with array_head block_base
 block_size block =
-    let items = small_head 4 (5 + check_count block.crc) (few_checks block.crc) in
+    let items = head_one 4 (5 + check_count block.crc) (few_checks block.crc) in
     let type = number_size (check_type block.crc) (small_type block.crc) in
     let item = item_size block.crc in
     rw (block_pieces.length-spelling block) (simp length-append (omega arith))
@@ -67,7 +68,7 @@ primary_base primary = 3 + length (uint primary.flags) + length (nodes primary) 
 primary_size : (primary : Primary) → length (primaries.spelling primary) ≡ primary_base primary + check_size primary.crc
 unfolding primaries.array_with front array_head primary_base
 primary_size primary =
-    let items = small_head 4 (8 + fragment_count primary.fragment + check_count primary.crc) (few_items primary) in
+    let items = head_one 4 (8 + fragment_count primary.fragment + check_count primary.crc) (few_items primary) in
     let version = number_size 7 (omega arith) in
     let type = number_size (check_type primary.crc) (small_type primary.crc) in
     let item = item_size primary.crc in

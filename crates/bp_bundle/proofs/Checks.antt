@@ -1,12 +1,12 @@
 -- What was fed to a check.
-use Rattle.std.proofs.Common.{◌≡◌, ℕ, ◌+◌, ◌-◌, ◌^◌, ◌≤◌, Bool, true, false, cond, ltb, List, [], ◌∷◌, ◌++◌, length, refl, sym, ap, subst, ◌∙◌, arith, append_assoc, length-append}
-use Rattle.std.specs.Int.{w8, w16, w32, w64, to_be_bytes}
-use Rattle.cbor_profile.specs.Head.{first_byte, head_spelling}
+use Rattle.std.proofs.Common.{◌≡◌, ℕ, ◌+◌, ◌-◌, ◌≤◌, List, [], ◌∷◌, ◌++◌, length, refl, sym, ap, subst, ◌∙◌, arith, append_assoc, length-append}
+use Rattle.cbor_profile.specs.Head.{head_spelling}
 use Rattle.cbor_profile.specs.Feeds.{Feeds}
 use Rattle.cbor_profile.specs.Put.{uint, array_head, byte_string}
+use Rattle.cbor_profile.proofs.Sizes.{head_at_most}
 use Rattle.bp_crc.specs.declared.kind.CheckKind.{CheckKind}
 use Rattle.bp_crc.specs.declared.kind.CheckKind.TheVariants as kinds
-use Rattle.bp_crc.specs.Check.{check_bytes, check}
+use Rattle.bp_crc.specs.Check.{check_bytes}
 use Rattle.bp_crc.specs.Item.{check_type, check_count, check_item, zeros}
 use Rattle.bp_primary.specs.declared.primary.Primary.{Primary}
 use Rattle.bp_primary.specs.Fragment.{fragment_items}
@@ -16,7 +16,6 @@ use Rattle.bp_bundle.specs.declared.header.Header.{Header}
 use Rattle.bp_bundle.specs.HeaderText.{header_text}
 use Rattle.bp_bundle.specs.FirstFault.{block_of}
 use Rattle.bp_bundle.specs.declared.check.Running.{Running}
-use Rattle.bp_bundle.specs.declared.check.Running.TheVariants as running
 use Rattle.bp_bundle.specs.Running.{Runs, kind_of_running}
 
 same_kind : (a b : CheckKind) → check_type a ≡ check_type b → a ≡ b
@@ -62,17 +61,6 @@ primary_length p =
 
 -- ---- a block piece by piece
 
-short_by : (b0 b1 b2 b3 : Bool) (major argument : ℕ)
-    → length (cond b0 (first_byte major argument ∷ []) (cond b1 (first_byte major 24 ∷ to_be_bytes w8 argument) (cond b2 (first_byte major 25 ∷ to_be_bytes w16 argument) (cond b3 (first_byte major 26 ∷ to_be_bytes w32 argument) (first_byte major 27 ∷ to_be_bytes w64 argument))))) ≤ 9
-short_by true b1 b2 b3 major argument = omega arith
-short_by false true b2 b3 major argument = omega arith
-short_by false false true b3 major argument = omega arith
-short_by false false false true major argument = omega arith
-short_by false false false false major argument = omega arith
-
-pub head_short : (major argument : ℕ) → length (head_spelling major argument) ≤ 9
-head_short major argument = short_by (ltb argument 24) (ltb argument (2 ^ 8)) (ltb argument (2 ^ 16)) (ltb argument (2 ^ 32)) major argument
-
 pub header_short : (header : Header) → length (header_text header) ≤ 54
 unfolding header_text array_head uint
 header_short h =
@@ -89,12 +77,12 @@ header_short h =
       length-append (a ++ b ++ c) d,
       length-append (a ++ b) c,
       length-append a b,
-      head_short 4 (5 + check_count h.crc),
-      head_short 0 h.kind,
-      head_short 0 h.number,
-      head_short 0 h.flags,
-      head_short 0 (check_type h.crc),
-      head_short 2 h.len,
+      head_at_most 4 (5 + check_count h.crc),
+      head_at_most 0 h.kind,
+      head_at_most 0 h.number,
+      head_at_most 0 h.flags,
+      head_at_most 0 (check_type h.crc),
+      head_at_most 2 h.len,
     )
 
 pub item_short : (kind : CheckKind) → length (check_item kind (zeros kind)) ≤ 5

@@ -1,7 +1,8 @@
 -- Reading keeps the number of all bytes given; no fault stands behind them, and where bytes end too early, it is their number.
-use Rattle.std.proofs.Common.{◌≡◌, ◌≢◌, ℕ, zero, suc, ◌+◌, ◌-◌, ◌%◌, ◌≤◌, Bool, true, false, cond, ltb, eqb, List, [], ◌∷◌, ◌++◌, length, take, drop, Option, Some, None, Result, Ok, Err, refl, sym, ◌∙◌, ap, arith, length-drop}
+use Rattle.std.proofs.Common.{◌≡◌, ℕ, zero, suc, ◌+◌, ◌-◌, ◌%◌, ◌≤◌, Bool, true, false, cond, ltb, eqb, List, [], ◌∷◌, ◌++◌, length, take, Option, Some, None, Result, Ok, Err, refl, sym, ◌∙◌, ap, arith, length-drop}
 use Rattle.std.specs.Prelude.{bytes_eq}
 use Rattle.std.proofs.lemmas.Bool.{ltb-false}
+use Rattle.cbor_profile.specs.Step.{◌>>=◌}
 use Rattle.cbor_profile.specs.declared.TheConstants.{BUNDLE_LIMIT}
 use Rattle.cbor_profile.specs.declared.head.Head.{Head}
 use Rattle.cbor_profile.specs.declared.fault.Reason.{Reason}
@@ -14,17 +15,13 @@ use Rattle.bp_eid.specs.declared.eid.Eid.{Eid}
 use Rattle.bp_eid.specs.declared.reading.EidAt.{EidAt}
 use Rattle.bp_eid.specs.declared.stop.Stop.{Stop}
 use Rattle.bp_eid.specs.Reading.{read_id, answer, place_of as id_place, fault_of, id_at as reading_at}
-use Rattle.bp_primary.specs.declared.primary.Primary.{Primary}
-use Rattle.bp_primary.specs.declared.primary.Piece.{Piece}
 use Rattle.bp_primary.specs.Flags.{is_fragment}
 use Rattle.bp_blocks.specs.declared.block.Block.{Block}
 use Rattle.bp_bundle.specs.declared.token.Token.{Token}
 use Rattle.bp_bundle.specs.declared.token.Token.TheVariants as tokens
-use Rattle.bp_bundle.specs.declared.header.Header.{Header}
-use Rattle.bp_bundle.specs.Shape.{Contents}
 use Rattle.bp_bundle.specs.Faults.{is_payload}
-use Rattle.bp_bundle.specs.Tokens.{Cursor, place_of, fault_at, stops, ◌>>=◌, major_of, conditions, first_failing, announced, up_to, after_conditions, after_head, argument_at}
-use Rattle.bp_bundle.specs.FirstFault.{past, after_byte, begin_at, end_at, content_at, after_id, id_at, kind_of, check_type_at, check_string_at, check_at, Nodes, nodes_at, Times, times_at, piece_at, primary_of, primary_check, fields_at, primary_at, header_at, block_of, block_check, next_at, closed_at, blocks_at, front_at, bundle_at, read_bundle}
+use Rattle.bp_bundle.specs.Tokens.{Cursor, stops, major_of, conditions, first_failing, announced, up_to, after_conditions, after_head, argument_at}
+use Rattle.bp_bundle.specs.FirstFault.{past, after_byte, begin_at, end_at, content_at, after_id, id_at, kind_of, check_type_at, check_string_at, check_at, nodes_at, times_at, piece_at, primary_of, primary_check, fields_at, primary_at, header_at, block_of, block_check, next_at, closed_at, blocks_at, front_at, bundle_at}
 use Rattle.bp_bundle.proofs.Shorter.{token_shorter}
 use Rattle.bp_bundle.proofs.Growing.{id_len}
 

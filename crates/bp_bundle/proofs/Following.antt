@@ -1,17 +1,15 @@
 -- What each step of the decoder leaves to be read.
-use Rattle.std.proofs.Common.{◌≡◌, ◌≢◌, ℕ, zero, suc, ◌+◌, ◌-◌, ◌*◌, ◌/◌, ◌%◌, ◌<◌, ◌≤◌, Bool, true, false, cond, ltb, eqb, ◌||◌, List, [], ◌∷◌, ◌++◌, length, take, drop, Option, Some, None, Result, Ok, Err, refl, sym, ◌∙◌, ap, subst, arith, append_assoc, length-drop}
-use Rattle.std.proofs.lemmas.Bool.{le-ltb, ltb-false, ltb-true, lt-ltb, eqb-true}
-use Rattle.std.proofs.lemmas.List.{length-append, append-nil, take-append-le, drop-append-le, length-take}
+use Rattle.std.proofs.Common.{◌≡◌, ℕ, suc, ◌+◌, ◌-◌, ◌<◌, ◌≤◌, Bool, true, false, cond, ltb, eqb, ◌||◌, List, [], ◌∷◌, ◌++◌, length, take, drop, Option, Some, None, Result, Ok, Err, refl, sym, ◌∙◌, ap, arith, append_assoc, length-drop}
+use Rattle.std.proofs.lemmas.Bool.{le-ltb, ltb-false, ltb-true, lt-ltb}
+use Rattle.std.proofs.lemmas.List.{length-append, take-append-le, drop-append-le}
 use Rattle.std.proofs.Math.Seq.{take-append-add, drop-append-add}
 use Rattle.cbor_profile.specs.declared.TheConstants.{BUNDLE_LIMIT}
 use Rattle.cbor_profile.specs.declared.head.Head.{Head}
 use Rattle.cbor_profile.specs.declared.fault.Reason.{Reason}
 use Rattle.cbor_profile.specs.declared.fault.Reason.TheVariants as reasons
 use Rattle.cbor_profile.specs.declared.fault.Fault.{Fault}
-use Rattle.cbor_profile.specs.declared.head.HeadRead.{HeadRead}
-use Rattle.cbor_profile.specs.declared.head.HeadRead.TheVariants.{Whole, Short, NotShortest, Bad}
-use Rattle.cbor_profile.specs.Head.{read_head, is_bad, following, argument, least}
-use Rattle.cbor_profile.specs.Token.{token_head, after_read}
+use Rattle.cbor_profile.specs.Step.{◌>>=◌}
+use Rattle.cbor_profile.specs.Token.{token_head}
 use Rattle.bp_primary.specs.declared.primary.Primary.{Primary}
 use Rattle.bp_blocks.specs.declared.block.Block.{Block}
 use Rattle.bp_bundle.specs.declared.token.Token.{Token}
@@ -20,18 +18,17 @@ use Rattle.bp_bundle.specs.declared.header.Header.{Header}
 use Rattle.bp_bundle.specs.declared.stage.Begun.{Begun}
 use Rattle.bp_bundle.specs.declared.stage.Open.{Open}
 use Rattle.bp_bundle.specs.declared.stage.Closing.{Closing}
-use Rattle.bp_bundle.specs.declared.stage.Stage.{Stage}
 use Rattle.bp_bundle.specs.declared.stage.Stage.TheVariants as stages
 use Rattle.bp_bundle.specs.Shape.{Contents}
 use Rattle.bp_bundle.specs.Faults.{is_payload}
-use Rattle.bp_bundle.specs.Tokens.{Cursor, stops, ◌>>=◌, major_of, conditions, first_failing, announced, up_to, after_conditions, after_head, argument_at}
+use Rattle.bp_bundle.specs.Tokens.{Cursor, stops, major_of, conditions, first_failing, announced, up_to, after_conditions, after_head, argument_at}
 use Rattle.bp_bundle.specs.FirstFault.{past, end_at, content_at, check_type_at, check_at, header_at, block_of, block_check, next_at, closed_at, blocks_at, front_at, bundle_at}
 use Rattle.cbor_profile.specs.declared.fault.SpellError.{SpellError}
 use Rattle.cbor_profile.specs.declared.fault.SpellError.TheVariants as errors
 use Rattle.bp_bundle.specs.Step.{Fails}
-use Rattle.bp_bundle.specs.Machine.{more_at, with_primary, rest_at, resume, steps_left, Follows, Waits}
-use Rattle.bp_bundle.proofs.Growing.{GrowthLaws, with_more, Grows, front_grows, header_grows, content_grows, check_grows, end_grows}
-use Rattle.bp_bundle.proofs.Ending.{given, Ends, second, itself, front_ends, header_ends, content_ends, check_ends, end_ends}
+use Rattle.bp_bundle.specs.Machine.{more_at, with_primary, rest_at, resume, Follows}
+use Rattle.bp_bundle.proofs.Growing.{GrowthLaws, with_more, front_grows, header_grows, check_grows, end_grows}
+use Rattle.bp_bundle.proofs.Ending.{given, second, itself, front_ends, header_ends, check_ends, end_ends}
 use Rattle.bp_bundle.proofs.Majors.{head_major}
 use Rattle.bp_bundle.proofs.Resuming.{bind_assoc, ends_ok, grows_ok}
 

@@ -1,5 +1,5 @@
 -- What was read, and a fault but for bytes that end too early, stay when bytes are added.
-use Rattle.std.proofs.Common.{◌≡◌, ◌≢◌, ℕ, zero, suc, ◌+◌, ◌-◌, ◌/◌, ◌%◌, ◌≤◌, Bool, true, false, cond, ltb, eqb, List, [], ◌∷◌, ◌++◌, length, take, drop, Option, Some, None, Result, Ok, Err, refl, sym, ◌∙◌, ap, arith}
+use Rattle.std.proofs.Common.{◌≡◌, ◌≢◌, ℕ, zero, suc, ◌+◌, ◌-◌, ◌/◌, ◌%◌, ◌≤◌, Bool, true, false, cond, ltb, eqb, List, [], ◌∷◌, ◌++◌, length, take, Option, Some, None, Result, Ok, Err, refl, sym, ◌∙◌, ap, arith}
 use Rattle.std.specs.Prelude.{bytes_eq}
 use Rattle.std.specs.List.{list_any}
 use Rattle.std.proofs.lemmas.Bool.{le-ltb, ltb-false}
@@ -12,6 +12,7 @@ use Rattle.cbor_profile.specs.declared.fault.Reason.{Reason}
 use Rattle.cbor_profile.specs.declared.fault.Reason.TheVariants as reasons
 use Rattle.cbor_profile.specs.declared.fault.Fault.{Fault}
 use Rattle.cbor_profile.specs.Head.{read_head, is_bad, following, argument, least}
+use Rattle.cbor_profile.specs.Step.{◌>>=◌}
 use Rattle.cbor_profile.specs.Token.{token_head, after_read}
 use Rattle.bp_crc.specs.declared.kind.CheckKind.{CheckKind}
 use Rattle.bp_crc.specs.declared.kind.CheckKind.TheVariants as kinds
@@ -19,17 +20,13 @@ use Rattle.bp_eid.specs.declared.eid.Eid.{Eid}
 use Rattle.bp_eid.specs.declared.reading.EidAt.{EidAt}
 use Rattle.bp_eid.specs.declared.stop.Stop.{Stop}
 use Rattle.bp_eid.specs.Reading.{read_id, answer, id_at as reading_at}
-use Rattle.bp_primary.specs.declared.primary.Primary.{Primary}
-use Rattle.bp_primary.specs.declared.primary.Piece.{Piece}
 use Rattle.bp_primary.specs.Flags.{is_fragment}
 use Rattle.bp_blocks.specs.declared.block.Block.{Block}
 use Rattle.bp_bundle.specs.declared.token.Token.{Token}
 use Rattle.bp_bundle.specs.declared.token.Token.TheVariants as tokens
-use Rattle.bp_bundle.specs.declared.header.Header.{Header}
-use Rattle.bp_bundle.specs.Shape.{Contents}
 use Rattle.bp_bundle.specs.Faults.{is_payload}
-use Rattle.bp_bundle.specs.Tokens.{Cursor, place_of, fault_at, stops, ◌>>=◌, major_of, conditions, first_failing, announced, up_to, after_conditions, after_head, argument_at}
-use Rattle.bp_bundle.specs.FirstFault.{past, after_byte, begin_at, end_at, content_at, after_id, id_at, kind_of, check_type_at, check_string_at, check_at, Nodes, nodes_at, Times, times_at, piece_at, primary_of, primary_check, fields_at, primary_at, header_at, block_of, block_check, next_at, closed_at, blocks_at, front_at, bundle_at, read_bundle}
+use Rattle.bp_bundle.specs.Tokens.{Cursor, stops, major_of, conditions, first_failing, announced, up_to, after_conditions, after_head, argument_at}
+use Rattle.bp_bundle.specs.FirstFault.{past, after_byte, begin_at, end_at, content_at, after_id, id_at, kind_of, check_type_at, check_string_at, check_at, nodes_at, times_at, piece_at, primary_of, primary_check, fields_at, primary_at, header_at, block_of, block_check, next_at, closed_at, blocks_at, front_at, bundle_at}
 
 -- the laws of the crates below
 pub record GrowthLaws : Type 0 where

@@ -5,13 +5,14 @@ use Rattle.std.specs.List.{list_any}
 use Rattle.std.proofs.lemmas.Bool.{eqb-true}
 use Rattle.cbor_profile.specs.Head.{spelling, head_spelling}
 use Rattle.cbor_profile.specs.Put.{uint, array_head}
+use Rattle.cbor_profile.specs.Step.{◌>>=◌}
 use Rattle.cbor_profile.specs.Token.{token_head}
 use Rattle.cbor_profile.specs.declared.head.Head.{Head}
 use Rattle.cbor_profile.specs.declared.fault.Reason.{Reason}
 use Rattle.cbor_profile.specs.declared.fault.Reason.TheVariants as reasons
 use Rattle.bp_eid.specs.declared.stop.Stop.{Stop}
 use Rattle.bp_eid.specs.Prefix.{Begins}
-use Rattle.bp_eid.specs.Reading.{◌>>=◌, stops, at_token, head_at, pair_at, number_at}
+use Rattle.bp_eid.specs.Reading.{stops, at_token, head_at, pair_at, number_at}
 use Rattle.bp_bundle.specs.Prefix.{EndsInTextTooShort, IsUnfinished}
 use Rattle.bp_bundle.proofs.Arguments.{IsBytes, TokenLaws, one_kind}
 use Rattle.bp_bundle.proofs.Reached.{Some_of, Starting, started, begun, LacksOne, head_unfinished, begins_behind, unfinished_behind}

@@ -6,6 +6,7 @@ use Rattle.std.proofs.lemmas.Bool.{ltb-true, ltb-false, eqb-true, le-leb, cases_
 use Rattle.std.proofs.lemmas.List.{length-append}
 use Rattle.cbor_profile.specs.Head.{head_spelling}
 use Rattle.cbor_profile.specs.Put.{uint, text_string, array_head}
+use Rattle.cbor_profile.specs.Step.{◌>>=◌}
 use Rattle.cbor_profile.specs.declared.fault.Reason.{Reason}
 use Rattle.cbor_profile.specs.declared.fault.Reason.TheVariants as reasons
 use Rattle.cbor_profile.specs.declared.fault.Fault.{Fault}
@@ -17,7 +18,7 @@ use Rattle.bp_eid.specs.EndpointId as ids
 use Rattle.bp_eid.specs.EndpointId.{scheme, specific_part, Fits}
 use Rattle.bp_eid.specs.Prefix.{Begins, IsId}
 use Rattle.bp_eid.specs.Reading as reading
-use Rattle.bp_eid.specs.Reading.{◌>>=◌, stops, at_token, head_at, pair_at, number_at, content_at, dtn_at, ipn_at, read_id, answer}
+use Rattle.bp_eid.specs.Reading.{stops, number_at, content_at, dtn_at, ipn_at, read_id, answer}
 use Rattle.bp_bundle.specs.Tokens.{Cursor}
 use Rattle.bp_bundle.specs.FirstFault.{after_id, id_at}
 use Rattle.bp_bundle.specs.Prefix.{EndsInTextTooShort}

@@ -3,6 +3,7 @@ use Rattle.std.proofs.Common.{◌≡◌, ℕ, ◌^◌, ◌<◌, Bool, true, fals
 use Rattle.std.proofs.lemmas.Bool.{eqb-true}
 use Rattle.cbor_profile.specs.Head.{head_spelling}
 use Rattle.cbor_profile.specs.Put.{uint, array_head}
+use Rattle.cbor_profile.specs.Step.{◌>>=◌}
 use Rattle.cbor_profile.specs.declared.fault.Fault.{Fault}
 use Rattle.cbor_profile.specs.declared.fault.Reason.TheVariants as reasons
 use Rattle.bp_eid.specs.declared.eid.Eid.{Eid}
@@ -12,7 +13,7 @@ use Rattle.bp_eid.specs.Prefix.{IsId}
 use Rattle.bp_primary.specs.declared.primary.Piece.{Piece}
 use Rattle.bp_primary.specs.Fragment.{fragment_items}
 use Rattle.bp_bundle.specs.declared.token.Token.TheVariants as tokens
-use Rattle.bp_bundle.specs.Tokens.{Cursor, ◌>>=◌, argument_at}
+use Rattle.bp_bundle.specs.Tokens.{Cursor, argument_at}
 use Rattle.bp_bundle.specs.FirstFault.{id_at, Nodes, nodes_at, Times, times_at, piece_at, piece_if}
 use Rattle.bp_bundle.proofs.Arguments.{IsBytes, took-same}
 use Rattle.bp_bundle.proofs.PrimaryMeans.{Laws, first_holds, id_means}

@@ -1,14 +1,13 @@
 -- What is read as a primary block is spelled so.
-use Rattle.std.proofs.Common.{◌≡◌, ℕ, zero, suc, ◌+◌, ◌-◌, ◌%◌, ◌^◌, ◌<◌, ◌≤◌, Bool, true, false, not, cond, ltb, leb, eqb, ◌&&◌, is_some, List, [], ◌∷◌, ◌++◌, length, take, drop, Option, Some, None, Result, Ok, Err, refl, sym, ◌∙◌, ap, subst, append_assoc, append-nil, arith}
+use Rattle.std.proofs.Common.{◌≡◌, ℕ, zero, suc, ◌+◌, ◌-◌, ◌%◌, ◌^◌, ◌<◌, ◌≤◌, Bool, true, false, not, cond, ltb, leb, eqb, ◌&&◌, List, [], ◌∷◌, ◌++◌, length, take, drop, Option, Some, None, Result, Ok, Err, refl, sym, ◌∙◌, ap, subst, arith}
 use Rattle.std.specs.Option.{ForSome}
 use Rattle.std.specs.Prelude.{bytes_eq}
 use Rattle.std.proofs.lemmas.Bool.{ltb-false, leb-true, eqb-true, and_parts}
-use Rattle.std.proofs.lemmas.Bool.Decides.{nat_tests}
 use Rattle.std.proofs.lemmas.List.{take-append-drop, length-take, length-append, drop_at}
 use Rattle.std.proofs.lemmas.Slice.Eq.{bytes_eq-Decides}
 use Rattle.cbor_profile.specs.Head.{head_spelling}
 use Rattle.cbor_profile.specs.Put.{uint, array_head, byte_string}
-use Rattle.cbor_profile.specs.declared.TheConstants.{BUNDLE_LIMIT}
+use Rattle.cbor_profile.specs.Step.{◌>>=◌}
 use Rattle.cbor_profile.specs.declared.fault.Fault.{Fault}
 use Rattle.cbor_profile.specs.declared.fault.Reason.{Reason}
 use Rattle.cbor_profile.specs.declared.fault.Reason.TheVariants as reasons
@@ -17,7 +16,6 @@ use Rattle.bp_crc.specs.declared.kind.CheckKind.TheVariants as kinds
 use Rattle.bp_crc.specs.Item.{check_type, check_count, check_item, zeros}
 use Rattle.bp_crc.specs.Check.{check_bytes}
 use Rattle.bp_eid.specs.declared.eid.Eid.{Eid}
-use Rattle.bp_eid.specs.declared.reading.EidAt.{EidAt}
 use Rattle.bp_eid.specs.declared.stop.Stop.{Stop}
 use Rattle.bp_eid.specs.EndpointId as ids
 use Rattle.bp_eid.specs.Reading as reading
@@ -28,12 +26,11 @@ use Rattle.bp_primary.specs.Fragment.{fragment_items, fragment_count}
 use Rattle.bp_primary.specs.Spelling as primaries
 use Rattle.bp_primary.specs.Spelling.{IsPrimary}
 use Rattle.bp_blocks.specs.declared.block.Block.{Block}
-use Rattle.bp_bundle.specs.declared.token.Token.{Token}
 use Rattle.bp_bundle.specs.declared.token.Token.TheVariants as tokens
 use Rattle.bp_bundle.specs.Faults.{exactly}
-use Rattle.bp_bundle.specs.Tokens.{Cursor, ◌>>=◌, stops, conditions, first_failing, argument_at, announced}
-use Rattle.bp_bundle.specs.FirstFault.{past, content_at, after_id, id_at, kind_of, check_type_at, check_string_at, check_at, Nodes, nodes_at, Times, times_at, piece_at, piece_if, piece_if_flag, primary_of, primary_check, fields_at, primary_at}
-use Rattle.bp_bundle.proofs.Arguments.{IsBytes, TokenLaws, bind_ok, ok_is, passed, here, Took, took-then, took-same, head_of, text_of, ReadsArgument, argument_means}
+use Rattle.bp_bundle.specs.Tokens.{Cursor, stops, argument_at}
+use Rattle.bp_bundle.specs.FirstFault.{past, content_at, after_id, id_at, kind_of, check_type_at, check_string_at, check_at, Nodes, nodes_at, Times, times_at, piece_at, piece_if, primary_of, primary_check, fields_at, primary_at}
+use Rattle.bp_bundle.proofs.Arguments.{IsBytes, TokenLaws, bind_ok, ok_is, passed, Took, took-then, took-same, argument_means}
 
 -- ---- ids
 

@@ -3,6 +3,7 @@ use Rattle.std.proofs.Common.{◌≡◌, ℕ, ◌+◌, ◌%◌, ◌^◌, ◌<◌
 use Rattle.std.proofs.lemmas.Bool.{eqb-true}
 use Rattle.cbor_profile.specs.Head.{head_spelling}
 use Rattle.cbor_profile.specs.Put.{uint, array_head}
+use Rattle.cbor_profile.specs.Step.{◌>>=◌}
 use Rattle.cbor_profile.specs.declared.fault.Fault.{Fault}
 use Rattle.cbor_profile.specs.declared.fault.Reason.TheVariants as reasons
 use Rattle.bp_crc.specs.declared.kind.CheckKind.{CheckKind}
@@ -17,7 +18,7 @@ use Rattle.bp_primary.specs.Spelling as primaries
 use Rattle.bp_primary.specs.Spelling.{IsPrimary}
 use Rattle.bp_bundle.specs.declared.token.Token.TheVariants as tokens
 use Rattle.bp_bundle.specs.Faults.{exactly}
-use Rattle.bp_bundle.specs.Tokens.{Cursor, ◌>>=◌, argument_at}
+use Rattle.bp_bundle.specs.Tokens.{Cursor, argument_at}
 use Rattle.bp_bundle.specs.FirstFault.{check_type_at, check_at, Nodes, nodes_at, Times, times_at, piece_at, piece_if, primary_of, primary_check, fields_at, primary_at}
 use Rattle.bp_bundle.proofs.Arguments.{IsBytes, took-same}
 use Rattle.bp_bundle.proofs.PrimaryMeans.{Laws, first_holds, exactly_is, check_type_means, check_size, nodes_means, times_means, few_items, items_are, piece_count, piece_fits, front_is, nodes_are, times_are, fields_means}

@@ -4,6 +4,7 @@ use Rattle.std.specs.List.{list_any}
 use Rattle.std.proofs.lemmas.Bool.{ltb-true}
 use Rattle.std.proofs.lemmas.List.{length-append}
 use Rattle.cbor_profile.specs.Head.{head_spelling, read_head}
+use Rattle.cbor_profile.specs.Step.{◌>>=◌}
 use Rattle.cbor_profile.specs.Token.{token_head, after_read}
 use Rattle.cbor_profile.specs.declared.TheConstants.{BUNDLE_LIMIT}
 use Rattle.cbor_profile.specs.declared.head.Head.{Head}
@@ -15,7 +16,7 @@ use Rattle.cbor_profile.specs.declared.fault.Fault.{Fault}
 use Rattle.bp_eid.specs.Prefix.{Begins}
 use Rattle.bp_blocks.specs.declared.block.Block.{Block}
 use Rattle.bp_bundle.specs.declared.token.Token.{Token}
-use Rattle.bp_bundle.specs.Tokens.{Cursor, place_of, stops, ◌>>=◌, major_of, conditions, first_failing, announced, up_to, after_conditions, after_head, argument_at}
+use Rattle.bp_bundle.specs.Tokens.{Cursor, place_of, stops, major_of, conditions, first_failing, announced, up_to, after_conditions, after_head, argument_at}
 use Rattle.bp_bundle.specs.FirstFault.{past, content_at}
 use Rattle.bp_bundle.specs.Prefix.{EndsInTextTooShort, IsUnfinished}
 use Rattle.bp_bundle.proofs.Arguments.{IsBytes, TokenLaws, Took, ReadsArgument, one_kind, argument_means}

@@ -1,32 +1,21 @@
 -- Reading goes on from one state of the decoder to the next.
-use Rattle.std.proofs.Common.{◌≡◌, ◌≢◌, ℕ, zero, suc, ◌+◌, ◌-◌, ◌*◌, ◌<◌, ◌≤◌, Bool, true, false, cond, ltb, List, [], ◌∷◌, ◌++◌, length, take, drop, Option, Some, None, Result, Ok, Err, refl, sym, ◌∙◌, ap, subst, arith, append_assoc, length-drop}
-use Rattle.std.proofs.lemmas.Bool.{le-ltb, ltb-false, ltb-true, lt-ltb}
-use Rattle.std.proofs.lemmas.List.{length-append, append-nil, take-append-le, drop-append-le, length-take}
-use Rattle.cbor_profile.specs.declared.TheConstants.{BUNDLE_LIMIT}
-use Rattle.cbor_profile.specs.declared.head.Head.{Head}
+use Rattle.std.proofs.Common.{◌≡◌, ◌≢◌, ℕ, ◌+◌, ◌-◌, ◌≤◌, List, ◌++◌, length, Result, Ok, Err, refl, ◌∙◌, ap, subst, arith}
+use Rattle.cbor_profile.specs.Step.{◌>>=◌}
 use Rattle.cbor_profile.specs.declared.fault.Reason.{Reason}
 use Rattle.cbor_profile.specs.declared.fault.Reason.TheVariants as reasons
 use Rattle.cbor_profile.specs.declared.fault.Fault.{Fault}
-use Rattle.cbor_profile.specs.declared.fault.SpellError.{SpellError}
 use Rattle.cbor_profile.specs.declared.fault.SpellError.TheVariants as errors
-use Rattle.cbor_profile.specs.Token.{token_head}
 use Rattle.bp_primary.specs.declared.primary.Primary.{Primary}
 use Rattle.bp_blocks.specs.declared.block.Block.{Block}
-use Rattle.bp_bundle.specs.declared.token.Token.TheVariants as tokens
 use Rattle.bp_bundle.specs.declared.header.Header.{Header}
 use Rattle.bp_bundle.specs.declared.stage.Begun.{Begun}
-use Rattle.bp_bundle.specs.declared.stage.Open.{Open}
-use Rattle.bp_bundle.specs.declared.stage.Closing.{Closing}
 use Rattle.bp_bundle.specs.declared.stage.Stage.{Stage}
 use Rattle.bp_bundle.specs.declared.stage.Stage.TheVariants as stages
-use Rattle.bp_bundle.specs.Shape.{Contents}
-use Rattle.bp_bundle.specs.Faults.{is_payload}
-use Rattle.bp_bundle.specs.Tokens.{Cursor, stops, ◌>>=◌, major_of, conditions, first_failing, up_to, after_conditions, after_head, argument_at}
-use Rattle.bp_bundle.specs.FirstFault.{past, end_at, content_at, check_type_at, check_at, header_at, block_of, block_check, next_at, closed_at, blocks_at, front_at, bundle_at, read_bundle}
-use Rattle.bp_bundle.specs.Step.{Fails}
-use Rattle.bp_bundle.specs.Machine.{more_at, with_primary, rest_at, resume, steps_left, Follows, Waits, StopsBy}
-use Rattle.bp_bundle.proofs.Growing.{GrowthLaws, with_more, grown, Stays, Grows, then_grows, ok_grows, front_grows, header_grows, content_grows, check_grows, end_grows, closed_grows, blocks_grow, bundle_grows}
-use Rattle.bp_bundle.proofs.Ending.{given, Ends, second, itself, then_ends, ok_ends, front_ends, header_ends, content_ends, check_ends, end_ends, closed_ends, blocks_end, bundle_ends}
+use Rattle.bp_bundle.specs.Tokens.{Cursor}
+use Rattle.bp_bundle.specs.FirstFault.{content_at, block_of, blocks_at, read_bundle}
+use Rattle.bp_bundle.specs.Machine.{more_at, with_primary, rest_at, resume, Follows, Waits, StopsBy}
+use Rattle.bp_bundle.proofs.Growing.{GrowthLaws, with_more, Stays, Grows, then_grows, ok_grows, content_grows, closed_grows, blocks_grow, bundle_grows}
+use Rattle.bp_bundle.proofs.Ending.{given, Ends, second, then_ends, ok_ends, content_ends, closed_ends, blocks_end, bundle_ends}
 
 -- ---- steps
 

@@ -2,10 +2,11 @@
 use Rattle.std.proofs.Common.{◌≡◌, ◌≢◌, ℕ, ◌+◌, inl, inr, ◌⊎◌, List, [], ◌++◌, length, Result, Ok, Err, refl, sym, ◌∙◌, ap, subst, append_assoc, arith}
 use Rattle.std.proofs.lemmas.List.{length-append}
 use Rattle.cbor_profile.specs.Head.{head_spelling}
+use Rattle.cbor_profile.specs.Step.{◌>>=◌}
 use Rattle.cbor_profile.specs.declared.fault.Reason.{Reason}
 use Rattle.cbor_profile.specs.declared.fault.Reason.TheVariants as reasons
 use Rattle.cbor_profile.specs.declared.fault.Fault.{Fault}
-use Rattle.bp_bundle.specs.Tokens.{Cursor, stops, ◌>>=◌}
+use Rattle.bp_bundle.specs.Tokens.{Cursor, stops}
 use Rattle.bp_bundle.specs.Prefix.{IsToken}
 use Rattle.bp_bundle.proofs.Arguments.{IsBytes, bind_ok, here, Took, took-then}
 

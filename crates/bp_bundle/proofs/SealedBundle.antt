@@ -3,6 +3,7 @@ use Rattle.std.proofs.Common.{◌≡◌, ◌≢◌, ℕ, zero, suc, ◌+◌, ◌
 use Rattle.std.proofs.lemmas.List.{length-append, take_at, drop_at}
 use Rattle.cbor_profile.specs.declared.fault.Reason.TheVariants as reasons
 use Rattle.cbor_profile.specs.declared.fault.Fault.{Fault}
+use Rattle.cbor_profile.specs.Step.{◌>>=◌}
 use Rattle.bp_crc.specs.declared.kind.CheckKind.{CheckKind}
 use Rattle.bp_eid.specs.declared.eid.Eid.{Eid}
 use Rattle.bp_eid.specs.Prefix.{Begins}
@@ -15,7 +16,7 @@ use Rattle.bp_bundle.specs.declared.token.Token.TheVariants as tokens
 use Rattle.bp_bundle.specs.Shape.{Contents}
 use Rattle.bp_bundle.specs.Spelling.{Spells, spelling}
 use Rattle.bp_bundle.specs.Faults.{is_payload}
-use Rattle.bp_bundle.specs.Tokens.{Cursor, ◌>>=◌, argument_at}
+use Rattle.bp_bundle.specs.Tokens.{Cursor, argument_at}
 use Rattle.bp_bundle.specs.FirstFault.{begin_at, end_at, content_at, id_at, check_type_at, check_at, Nodes, nodes_at, Times, times_at, piece_at, primary_of, primary_check, fields_at, primary_at, header_at, block_of, block_check, closed_at, blocks_at, front_at, bundle_at, read_bundle}
 use Rattle.bp_bundle.specs.Prefix.{IsFaulty}
 use Rattle.bp_bundle.proofs.Arguments.{IsBytes, here}

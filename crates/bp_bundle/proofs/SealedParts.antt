@@ -4,6 +4,7 @@ use Rattle.std.specs.Prelude.{bytes_eq}
 use Rattle.std.proofs.lemmas.Bool.{eqb-true, eq-eqb}
 use Rattle.std.proofs.lemmas.List.{length-append}
 use Rattle.cbor_profile.specs.Head.{head_spelling}
+use Rattle.cbor_profile.specs.Step.{◌>>=◌}
 use Rattle.cbor_profile.specs.declared.TheConstants.{BUNDLE_LIMIT}
 use Rattle.cbor_profile.specs.declared.fault.Reason.{Reason}
 use Rattle.cbor_profile.specs.declared.fault.Reason.TheVariants as reasons
@@ -17,7 +18,7 @@ use Rattle.bp_eid.specs.EndpointId as ids
 use Rattle.bp_eid.specs.Reading as reading
 use Rattle.bp_eid.specs.Reading.{read_id, answer}
 use Rattle.bp_bundle.specs.declared.token.Token.TheVariants as tokens
-use Rattle.bp_bundle.specs.Tokens.{Cursor, ◌>>=◌, stops, argument_at}
+use Rattle.bp_bundle.specs.Tokens.{Cursor, stops, argument_at}
 use Rattle.bp_bundle.specs.FirstFault.{after_byte, begin_at, end_at, content_at, after_id, id_at, kind_of, check_type_at, check_string_at, check_at}
 use Rattle.bp_bundle.proofs.Arguments.{IsBytes, here, text_of, argument_means}
 use Rattle.bp_bundle.proofs.PrimaryMeans.{id_means, content_means, check_means}

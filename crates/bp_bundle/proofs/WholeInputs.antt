@@ -1,5 +1,5 @@
 -- What reading one bundle and the end of an input comes to.
-use Rattle.std.proofs.Common.{◌≡◌, ◌≢◌, ℕ, zero, suc, ◌+◌, ◌-◌, ◌<◌, ◌≤◌, Bool, true, false, not, eqb, List, [], ◌∷◌, ◌++◌, length, take, Option, Some, None, Result, Ok, Err, refl, sym, ◌∙◌, ap, subst, append_assoc, append-nil, arith}
+use Rattle.std.proofs.Common.{◌≡◌, ◌≢◌, ℕ, ◌+◌, ◌-◌, ◌<◌, ◌≤◌, Bool, true, false, not, eqb, List, [], ◌∷◌, ◌++◌, length, take, Option, Some, None, Result, Ok, Err, refl, sym, ◌∙◌, ap, subst, append_assoc, append-nil, arith}
 use Rattle.std.specs.Prelude.{option_map, IfOk, IfSome}
 use Rattle.std.proofs.lemmas.Bool.{eqb-true, eqb-false}
 use Rattle.std.proofs.lemmas.List.{length-append, take_at}
@@ -12,9 +12,8 @@ use Rattle.cbor_profile.specs.declared.fault.SpellError.{SpellError}
 use Rattle.cbor_profile.specs.declared.fault.SpellError.TheVariants as errors
 use Rattle.bp_bundle.specs.Shape.{Contents}
 use Rattle.bp_bundle.specs.Spelling.{IsBundle, spelling}
-use Rattle.bp_bundle.specs.Tokens.{Cursor, ◌>>=◌}
-use Rattle.bp_bundle.specs.FirstFault.{read_bundle, read_only, end_of_input}
-use Rattle.bp_bundle.specs.Taking.{Took, Feeds, Faults, early}
+use Rattle.bp_bundle.specs.FirstFault.{read_bundle, read_only}
+use Rattle.bp_bundle.specs.Taking.{Took, Feeds, early}
 use Rattle.bp_bundle.specs.declared.reader.Fed.{Fed}
 use Rattle.bp_bundle.specs.declared.reader.Reader.{Reader}
 use Rattle.bp_bundle.specs.declared.whole_input.InputFault.TheVariants as inputs
@@ -61,7 +60,7 @@ only_ok again bundle is = rw (ap read_bundle (sym (append-nil (spelling bundle))
 
 -- ---- one more piece
 
-pub step_most : (before old now : Option (List ℕ)) (reader : Reader) (piece : List ℕ) → length piece ≤ 8192 → HasTaken before old reader → Taken old piece now → TakesAtMost (BUNDLE_LIMIT + 8200) before now
+pub step_most : (before old now : Option (List ℕ)) (reader : Reader) (piece : List ℕ) → length piece ≤ 65536 → HasTaken before old reader → Taken old piece now → TakesAtMost (BUNDLE_LIMIT + 65544) before now
 step_most before old now reader piece few has moved =
     let small = has.small in
     (has.taken ++ piece, omega (arith, length-append has.taken piece), taken_then before old now has.taken piece has.given moved)
@@ -94,7 +93,7 @@ some_of : (xs : List ℕ) → (length xs ≡ 0 → ⊥) → 0 < length xs
 some_of [] some = absurd (some refl)
 some_of (x ∷ xs) some = omega arith
 
-pub step_done : (before old now : Option (List ℕ)) (reader after : Reader) (piece : List ℕ) (fed : Fed) (n : ℕ) → length piece ≤ 8192 → length piece ≡ n → HasTaken before old reader → Taken old piece now
+pub step_done : (before old now : Option (List ℕ)) (reader after : Reader) (piece : List ℕ) (fed : Fed) (n : ℕ) → length piece ≤ 65536 → length piece ≡ n → HasTaken before old reader → Taken old piece now
     → ((taken : List ℕ) → Took reader taken → Feeds taken piece after (Ok fed)) → fed.done ≡ true → HasEnded before now after (eqb fed.taken n)
 step_done before old now reader after piece fed n few size has moved feeds done =
     let ends = rw done at (feeds has.taken has.took) in
@@ -143,7 +142,7 @@ next_trails again before old now reader all size piece has same moved some =
     (subst (λ (t : List ℕ). Taken before t now) (append_assoc (spelling has.bundle) has.rest piece) (taken_then before old now (spelling has.bundle ++ has.rest) piece has.given moved))
     (more_trails again has.bundle (has.rest ++ piece) size has.is same (omega (arith, length-append has.rest piece)))
 
-pub next_most : (before old now : Option (List ℕ)) (reader : Reader) (all : Bool) (piece : List ℕ) → HasEnded before old reader all → Taken old piece now → length piece ≤ 1 → TakesAtMost (BUNDLE_LIMIT + 8201) before now
+pub next_most : (before old now : Option (List ℕ)) (reader : Reader) (all : Bool) (piece : List ℕ) → HasEnded before old reader all → Taken old piece now → length piece ≤ 1 → TakesAtMost (BUNDLE_LIMIT + 65545) before now
 next_most before old now reader all piece has moved few =
     let small = has.small in
     ((spelling has.bundle ++ has.rest) ++ piece, omega (arith, length-append (spelling has.bundle ++ has.rest) piece), taken_then before old now (spelling has.bundle ++ has.rest) piece has.given moved)
@@ -177,7 +176,7 @@ start before reader took = record {
     start_taken None = refl
     start_taken (Some xs) = refl
 
-pub loop_most : (before now : Option (List ℕ)) (reader : Reader) → HasTaken before now reader → TakesAtMost (BUNDLE_LIMIT + 8201) before now
+pub loop_most : (before now : Option (List ℕ)) (reader : Reader) → HasTaken before now reader → TakesAtMost (BUNDLE_LIMIT + 65545) before now
 loop_most before now reader has = let small = has.small in (has.taken, omega arith, has.given)
 
 -- each piece brings the limit nearer
@@ -187,7 +186,7 @@ nearer before now reader after has further =
     let place = has.took.place in
     omega arith
 
-pub most_more : (before now : Option (List ℕ)) → TakesAtMost (BUNDLE_LIMIT + 8200) before now → TakesAtMost (BUNDLE_LIMIT + 8201) before now
+pub most_more : (before now : Option (List ℕ)) → TakesAtMost (BUNDLE_LIMIT + 65544) before now → TakesAtMost (BUNDLE_LIMIT + 65545) before now
 most_more before now most = let few = most.1 in (most.0, omega arith, most.2)
 
 pub if_ok : {A B : Type 0} (P : Type 0) (r : Result A B) → P → IfOk r (λ _. P)

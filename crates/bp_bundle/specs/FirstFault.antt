@@ -3,6 +3,7 @@
 use Rattle.std.specs.Prelude.{◌≡◌, ℕ, zero, suc, ◌+◌, ◌%◌, Bool, true, false, ◌==◌, nat_lt, if◌then◌else◌, List, [], ◌∷◌, ◌++◌, length, take, drop, is_some, Option, Some, None, Result, Ok, Err, bytes_eq, refl}
 use Rattle.cbor_profile.specs.declared.fault.Reason.TheVariants.{NotBundle, Truncated, WrongKind, WrongCheck, TooLong, Trailing}
 use Rattle.cbor_profile.specs.declared.fault.Fault.{Fault}
+use Rattle.cbor_profile.specs.Step.{◌>>=◌}
 use Rattle.bp_crc.specs.declared.kind.CheckKind.{CheckKind}
 use Rattle.bp_crc.specs.declared.kind.CheckKind.TheVariants as kinds
 use Rattle.bp_crc.specs.Check.{check_bytes}
@@ -20,7 +21,7 @@ use Rattle.bp_bundle.specs.declared.header.Header.{Header}
 use Rattle.bp_bundle.specs.declared.token.Token.TheVariants.{PrimaryArray, Version, BundleFlags, CheckType, Pair, Number, CheckString, BlockArray, BlockType, BlockNumber, Body}
 use Rattle.bp_bundle.specs.Shape.{Contents}
 use Rattle.bp_bundle.specs.Faults.{is_payload}
-use Rattle.bp_bundle.specs.Tokens.{Cursor, ◌>>=◌, stops, argument_at}
+use Rattle.bp_bundle.specs.Tokens.{Cursor, stops, argument_at}
 
 -- ---- tokens that are no heads of the table
 

@@ -1,18 +1,17 @@
 -- The streaming decoder's states, and what each still reads.
-use Rattle.std.specs.Prelude.{◌≡◌, ◌≢◌, ℕ, zero, ◌+◌, ◌-◌, ◌*◌, ◌<◌, ◌≤◌, List, [], ◌++◌, length, Result, Ok, Err, Option, Some, None}
+use Rattle.std.specs.Prelude.{◌≡◌, ◌≢◌, ℕ, ◌+◌, ◌-◌, ◌*◌, ◌<◌, List, ◌++◌, length, Result, Ok, Err}
 use Rattle.cbor_profile.specs.declared.fault.Reason.TheVariants.{Truncated}
 use Rattle.cbor_profile.specs.declared.fault.Fault.{Fault}
 use Rattle.cbor_profile.specs.declared.fault.SpellError.{SpellError}
 use Rattle.cbor_profile.specs.declared.fault.SpellError.TheVariants as errors
+use Rattle.cbor_profile.specs.Step.{◌>>=◌}
 use Rattle.bp_primary.specs.declared.primary.Primary.{Primary}
 use Rattle.bp_blocks.specs.declared.block.Block.{Block}
 use Rattle.bp_bundle.specs.Shape.{Contents}
-use Rattle.bp_bundle.specs.Tokens.{Cursor, ◌>>=◌}
+use Rattle.bp_bundle.specs.Tokens.{Cursor}
 use Rattle.bp_bundle.specs.FirstFault.{content_at, block_of, closed_at, blocks_at, bundle_at}
 use Rattle.bp_bundle.specs.Step.{seen}
 use Rattle.bp_bundle.specs.declared.stage.Begun.{Begun}
-use Rattle.bp_bundle.specs.declared.stage.Open.{Open}
-use Rattle.bp_bundle.specs.declared.stage.Closing.{Closing}
 use Rattle.bp_bundle.specs.declared.stage.Stage.{Stage}
 use Rattle.bp_bundle.specs.declared.stage.Stage.TheVariants.{Front, Header, Body, Tail, Done}
 use Rattle.bp_bundle.specs.declared.stage.Step.{Step}

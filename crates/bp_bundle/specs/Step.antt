@@ -1,5 +1,5 @@
 -- What a step of reading returned.
-use Rattle.std.specs.Prelude.{◌≡◌, Result, Ok, Err, IsOk}
+use Rattle.std.specs.Prelude.{◌≡◌, Result, Err}
 use Rattle.cbor_profile.specs.declared.fault.Fault.{Fault}
 use Rattle.cbor_profile.specs.declared.fault.SpellError.{SpellError}
 use Rattle.cbor_profile.specs.declared.fault.SpellError.TheVariants as errors
@@ -20,17 +20,7 @@ nodes_seen ids = record { destination = ids.destination; source = ids.source; re
 abbrev pub times_seen : Clock → Times
 times_seen clock = record { created = clock.created; sequence = clock.sequence; lifetime = clock.lifetime }
 
--- it is what reading gives, seen by `view`
-abbrev pub Stands : {X Y : Type 0} → (X → Y) → Result X Fault → Result Y Fault → Type 0
-Stands view (Ok x) read = read ≡ Ok (view x)
-Stands view (Err fault) read = read ≡ Err fault
-
 -- a fault is that of reading; memory may run out in each case
 abbrev pub Fails : {Y : Type 0} → SpellError → Result Y Fault → Type 0
 Fails errors.NoMemory read = Unit {0}
 Fails (errors.Fault fault) read = read ≡ Err fault
-
--- it is what reading gives, or memory ran out
-abbrev pub Gives : {X Y : Type 0} → (X → Y) → Result X SpellError → Result Y Fault → Type 0
-Gives view (Ok x) read = read ≡ Ok (view x)
-Gives view (Err e) read = Fails e read

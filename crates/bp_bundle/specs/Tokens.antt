@@ -33,11 +33,6 @@ fault_at cursor reason = record { place = place_of cursor reason; reason = reaso
 abbrev pub stops : {A : Type 0} → Cursor → Reason → Result A Fault
 stops cursor reason = Err (fault_at cursor reason)
 
-infixl 10 ◌>>=◌
-abbrev pub ◌>>=◌ : {A B : Type 0} → Result A Fault → (A → Result B Fault) → Result B Fault
-(Ok x) >>= f = f x
-(Err fault) >>= f = Err fault
-
 -- ---- the table
 
 -- the major type that a head has: an unsigned number, a byte string, or an array

@@ -52,7 +52,7 @@ pub record HasEnded (before now : Option (List ℕ)) (reader : Reader) (all : Bo
   pub rest : List ℕ
   pub is : IsBundle bundle
   pub given : Taken before (spelling bundle ++ rest) now
-  pub small : length (spelling bundle ++ rest) ≤ BUNDLE_LIMIT + 8200
+  pub small : length (spelling bundle ++ rest) ≤ BUNDLE_LIMIT + 65544
   pub took : Took reader (spelling bundle)
   pub nothing_more : all ≡ true → rest ≡ []
   pub something_more : all ≡ false → 0 < length rest
@@ -70,4 +70,4 @@ TakesAtMost most before now = (taken : List ℕ) × (length taken ≤ most) × T
 
 -- the most bytes that are taken for one bundle and the end: fewer than 8 more than a bundle can have, a piece, and a byte
 abbrev pub most_taken : ℕ
-most_taken = BUNDLE_LIMIT + 8201
+most_taken = BUNDLE_LIMIT + 65545

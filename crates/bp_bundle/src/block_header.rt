@@ -1,7 +1,8 @@
 //! The header of a canonical block (RFC 9171, section 4.3.2).
 
 ghost use Rattle.std.specs.Prelude.{◌≡◌};
-ghost use Rattle.bp_bundle.specs.Step.{Stands, seen};
+ghost use Rattle.cbor_profile.specs.Step.{Stands};
+ghost use Rattle.bp_bundle.specs.Step.{seen};
 ghost use Rattle.bp_bundle.specs.FirstFault.{header_at};
 
 use crate::at::At;

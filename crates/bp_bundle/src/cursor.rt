@@ -1,7 +1,8 @@
 //! Where a reader stands, and tokens that are no heads.
 
 ghost use Rattle.std.specs.Prelude.{◌≡◌, ◌≤◌, length};
-ghost use Rattle.bp_bundle.specs.Step.{Stands, seen};
+ghost use Rattle.cbor_profile.specs.Step.{Stands};
+ghost use Rattle.bp_bundle.specs.Step.{seen};
 ghost use Rattle.bp_bundle.specs.Tokens.{fault_at, up_to};
 ghost use Rattle.bp_bundle.specs.FirstFault.{past, begin_at, end_at, content_at};
 

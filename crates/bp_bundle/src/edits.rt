@@ -19,6 +19,7 @@ use std::mem;
 pub enum InsertFault {
     /// The bundle with the block would have this fault of shape.
     Shape(ShapeFault),
+    /// No memory was left.
     NoMemory,
 }
 

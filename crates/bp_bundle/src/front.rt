@@ -1,10 +1,11 @@
 //! The begin of a bundle and its primary block (RFC 9171, section 4.3.1).
 
 ghost use Rattle.std.specs.Prelude.{◌≡◌, ◌%◌, ◌==◌};
+ghost use Rattle.cbor_profile.specs.Step.{Stands, Gives};
 ghost use Rattle.bp_crc.specs.Check.{check_bytes};
 ghost use Rattle.bp_crc.specs.Item.{zeros};
 ghost use Rattle.bp_primary.specs.Flags.{is_fragment};
-ghost use Rattle.bp_bundle.specs.Step.{Stands, Gives, seen, nodes_seen, times_seen};
+ghost use Rattle.bp_bundle.specs.Step.{Fails, seen, nodes_seen, times_seen};
 ghost use Rattle.bp_bundle.specs.FirstFault.{nodes_at, times_at, piece_at, piece_if, primary_of, fields_at, primary_check, primary_at, front_at};
 
 use crate::at::At;
@@ -36,7 +37,7 @@ struct Clock {
 
 #[tactic(auto, unfolding(crate::specs::FirstFault::nodes_at))]
 fn three_ids(alloc: Global, here: At<'_>) -> Result<(Ids, At<'_>), SpellError>
-    ensures { Gives (λ x. (nodes_seen x.0, seen x.1)) result (nodes_at (seen here.entry)) }
+    ensures { Gives Fails (λ x. (nodes_seen x.0, seen x.1)) result (nodes_at (seen here.entry)) }
 {
     let (destination, rest) = id(alloc, here)?;
     let (source, rest) = id(alloc, rest)?;
@@ -109,7 +110,7 @@ fn made(flags: u64, crc: CheckKind, ids: Ids, clock: Clock, piece: Piece) -> Pri
 /// The primary block up to its check.
 #[tactic(auto, unfolding(crate::specs::FirstFault::fields_at))]
 fn fields(alloc: Global, here: At<'_>) -> Result<(Primary, At<'_>), SpellError>
-    ensures { Gives (λ x. (x.0, seen x.1)) result (fields_at (seen here.entry)) }
+    ensures { Gives Fails (λ x. (x.0, seen x.1)) result (fields_at (seen here.entry)) }
 {
     let (items, rest) = argument(&[], Token::PrimaryArray, here)?;
     let (_version, rest) = argument(&[], Token::Version, rest)?;
@@ -134,7 +135,7 @@ fn check_of(primary: &Primary) -> CheckBytes
 /// The byte 9f and the primary block.
 #[tactic(auto, unfolding(crate::specs::FirstFault::front_at, crate::specs::FirstFault::primary_at))]
 pub(crate) fn front(alloc: Global, here: At<'_>) -> Result<(Primary, At<'_>), SpellError>
-    ensures { Gives (λ x. (x.0, seen x.1)) result (front_at (seen here.entry)) }
+    ensures { Gives Fails (λ x. (x.0, seen x.1)) result (front_at (seen here.entry)) }
 {
     let rest = begin(here)?;
     let (primary, rest) = fields(alloc, rest)?;

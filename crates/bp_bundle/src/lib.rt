@@ -31,8 +31,3 @@ pub use edits::InsertFault;
 pub use reader::{Fed, Reader};
 pub use shape::{ShapeFault, spelled_size};
 pub use whole_input::{InputFault, read_one};
-
-#[cfg(test)]
-mod bundles_tests;
-#[cfg(test)]
-mod tests;

@@ -1,7 +1,8 @@
 //! Ids, check types and checks.
 
 ghost use Rattle.std.specs.Prelude.{◌≡◌, ◌==◌};
-ghost use Rattle.bp_bundle.specs.Step.{Stands, Gives, seen};
+ghost use Rattle.cbor_profile.specs.Step.{Stands, Gives};
+ghost use Rattle.bp_bundle.specs.Step.{Fails, seen};
 ghost use Rattle.bp_bundle.specs.FirstFault.{id_at, kind_of, check_type_at, check_string_at, check_at};
 
 use crate::at::At;
@@ -15,7 +16,7 @@ use std::alloc::Global;
 /// An endpoint id.
 #[tactic(auto, unfolding(crate::specs::FirstFault::id_at))]
 pub(crate) fn id(alloc: Global, here: At<'_>) -> Result<(Eid, At<'_>), SpellError>
-    ensures { Gives (λ x. (x.0, seen x.1)) result (id_at (seen here.entry)) }
+    ensures { Gives Fails (λ x. (x.0, seen x.1)) result (id_at (seen here.entry)) }
 {
     match Eid::read(alloc, here.rest) {
         Ok(found) => Ok((found.eid, here.past(found.len))),

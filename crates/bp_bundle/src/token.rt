@@ -1,7 +1,8 @@
 //! The heads of a bundle's tokens.
 
 ghost use Rattle.std.specs.Prelude.{◌≡◌, None, Some, if◌then◌else◌};
-ghost use Rattle.bp_bundle.specs.Step.{Stands, seen};
+ghost use Rattle.cbor_profile.specs.Step.{Stands};
+ghost use Rattle.bp_bundle.specs.Step.{seen};
 ghost use Rattle.bp_bundle.specs.Tokens.{major_of, conditions, first_failing, announced, after_conditions, argument_at};
 
 use crate::at::At;

@@ -23,11 +23,12 @@ pub enum InputFault {
     Failed,
     /// It isn't what was to be read: this is its first fault.
     Fault(Fault),
+    /// No memory was left.
     NoMemory,
 }
 
 /// How many bytes are asked for at once.
-const PIECE: usize = 8192;
+const PIECE: usize = 65536;
 
 /// The fault of bytes after a bundle of so many.
 fn trailing(place: u64) -> InputFault
@@ -66,10 +67,10 @@ fn take<S: Source>(
     reader: &mut Reader,
 ) -> Result<Step, InputFault>
     requires some { 0 < length buffer.old }
-    requires few { length buffer.old ≤ 8192 }
+    requires few { length buffer.old ≤ 65536 }
     ensures means { (before : Option (List ℕ)) → HasTaken before (S.left source.old) reader.old → Stepped before (S.left source.new) reader.new result }
     ensures onwards { (before : Option (List ℕ)) → HasTaken before (S.left source.old) reader.old → result ≡ Ok Step.More → count reader.old < count reader.new }
-    ensures at_most { (before : Option (List ℕ)) → HasTaken before (S.left source.old) reader.old → TakesAtMost (BUNDLE_LIMIT + 8200) before (S.left source.new) }
+    ensures at_most { (before : Option (List ℕ)) → HasTaken before (S.left source.old) reader.old → TakesAtMost (BUNDLE_LIMIT + 65544) before (S.left source.new) }
     ensures quiet { (IsErrOf result InputFault.Failed → ⊥) → S.faults source.new ≡ S.faults source.old }
     ensures failed { IsErrOf result InputFault.Failed → Rose (S.faults source.old) (S.faults source.new) }
     ensures reads_on { S.steady source.old → (IsErrOf result InputFault.Failed → ⊥) × S.steady source.new }

@@ -6,12 +6,13 @@ use Rattle.cbor_profile.specs.declared.head.Head.{Head}
 use Rattle.cbor_profile.specs.declared.fault.Reason.TheVariants.{WrongValue}
 use Rattle.cbor_profile.specs.Head.{spelling as head_text, head_spelling}
 use Rattle.cbor_profile.specs.Put.{uint, array_head, text_string}
+use Rattle.cbor_profile.specs.Step.{◌>>=◌}
 use Rattle.bp_eid.specs.declared.eid.Eid.{Eid}
 use Rattle.bp_eid.specs.declared.eid.Eid.TheVariants.{Null, Dtn, Ipn}
 use Rattle.bp_eid.specs.declared.stop.Stop.{Stop}
 use Rattle.bp_eid.specs.DtnText.{is_dtn_text, IsDtnText}
 use Rattle.bp_eid.specs.EndpointId.{scheme, specific_part, spelling, Fits}
-use Rattle.bp_eid.specs.Reading.{◌>>=◌, stops, head_at, pair_at, number_at, content_at, dtn_at, ipn_at, id_at}
+use Rattle.bp_eid.specs.Reading.{stops, head_at, pair_at, number_at, content_at, dtn_at, ipn_at, id_at}
 use Rattle.bp_eid.proofs.Steps.{IsBytes, bind_ok, passed, let_through, ok_is, Takes, Takes-then}
 use Rattle.bp_eid.proofs.Tokens.{HeadLaws, ReadsHead, spelled, took, head_again, head_means, pair_again, pair_means, number_again, number_means, content_again, content_means}
 

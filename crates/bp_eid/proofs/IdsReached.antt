@@ -8,12 +8,13 @@ use Rattle.cbor_profile.specs.declared.head.Head.{Head}
 use Rattle.cbor_profile.specs.declared.fault.Reason.TheVariants as reasons
 use Rattle.cbor_profile.specs.Head.{head_spelling}
 use Rattle.cbor_profile.specs.Put.{uint, text_string, array_head}
+use Rattle.cbor_profile.specs.Step.{◌>>=◌}
 use Rattle.bp_eid.specs.declared.eid.Eid.{Eid}
 use Rattle.bp_eid.specs.declared.eid.Eid.TheVariants.{Null, Dtn, Ipn}
 use Rattle.bp_eid.specs.declared.stop.Stop.{Stop}
 use Rattle.bp_eid.specs.DtnText.{is_dtn_text, is_visible, slash, IsDtnText}
 use Rattle.bp_eid.specs.EndpointId.{scheme, specific_part, spelling, Fits}
-use Rattle.bp_eid.specs.Reading.{◌>>=◌, stops, head_at, pair_at, number_at, content_at, dtn_at, ipn_at, id_at}
+use Rattle.bp_eid.specs.Reading.{stops, head_at, pair_at, number_at, content_at, dtn_at, ipn_at, id_at}
 use Rattle.bp_eid.proofs.Steps.{IsBytes}
 use Rattle.bp_eid.proofs.Tokens.{HeadLaws, head_means, ReadsHead, spelled, took, pair_means, number_means}
 use Rattle.bp_eid.proofs.Ids.{chosen, null_or_text}

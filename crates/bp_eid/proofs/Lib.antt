@@ -4,7 +4,6 @@ pub mod Ids
 pub mod Within
 pub mod Read
 pub mod Pieces
-pub mod Lengths
 pub mod Decimals
 pub mod Texts
 pub mod Growing

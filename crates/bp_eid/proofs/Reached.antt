@@ -2,8 +2,8 @@
 use Rattle.std.proofs.Common.{◌≡◌, ℕ, ◌+◌, ◌-◌, inl, inr, ◌⊎◌, List, [], ◌++◌, length, take, Result, Ok, Err, refl, sym, ◌∙◌, ap, append_assoc, arith}
 use Rattle.std.proofs.lemmas.List.{length-append, take_at}
 use Rattle.cbor_profile.specs.Head.{head_spelling}
+use Rattle.cbor_profile.specs.Step.{◌>>=◌}
 use Rattle.bp_eid.specs.declared.stop.Stop.{Stop}
-use Rattle.bp_eid.specs.Reading.{◌>>=◌}
 use Rattle.bp_eid.specs.Prefix.{Begins, EndsInShortText, before_stop}
 
 -- some byte list is of the kind

@@ -5,12 +5,13 @@ use Rattle.cbor_profile.specs.declared.head.Head.{Head}
 use Rattle.cbor_profile.specs.declared.fault.Reason.{Reason}
 use Rattle.cbor_profile.specs.declared.fault.Reason.TheVariants.{Truncated, WrongCount, WrongValue, WrongText}
 use Rattle.cbor_profile.specs.Head.{read_head}
+use Rattle.cbor_profile.specs.Step.{◌>>=◌}
 use Rattle.cbor_profile.specs.Token.{token_head, after_read}
 use Rattle.bp_eid.specs.declared.eid.Eid.{Eid}
 use Rattle.bp_eid.specs.declared.eid.Eid.TheVariants.{Null, Dtn, Ipn}
 use Rattle.bp_eid.specs.declared.stop.Stop.{Stop}
 use Rattle.bp_eid.specs.DtnText.{is_dtn_text}
-use Rattle.bp_eid.specs.Reading.{◌>>=◌, stops, at_token, head_at, pair_at, number_at, content_at, dtn_at, ipn_at, id_at}
+use Rattle.bp_eid.specs.Reading.{stops, at_token, head_at, pair_at, number_at, content_at, dtn_at, ipn_at, id_at}
 use Rattle.bp_eid.proofs.Tokens.{is_among, among_ok, after_ok}
 
 -- what is left of a value, or the stop

@@ -7,6 +7,7 @@ use Rattle.cbor_profile.specs.declared.fault.Reason.TheVariants.{Truncated, Wron
 use Rattle.cbor_profile.specs.declared.fault.Fault.{Fault}
 use Rattle.cbor_profile.specs.declared.fault.SpellError.{SpellError}
 use Rattle.cbor_profile.specs.declared.fault.SpellError.TheVariants as errors
+use Rattle.cbor_profile.specs.Step.{◌>>=◌}
 use Rattle.cbor_profile.specs.Token.{token_head}
 use Rattle.bp_eid.specs.declared.eid.Eid.{Eid}
 use Rattle.bp_eid.specs.declared.eid.Eid.TheVariants.{Null, Dtn, Ipn}
@@ -20,11 +21,6 @@ use Rattle.bp_eid.specs.EndpointId.{HasText}
 -- a token that begins here isn't permitted, for this reason
 abbrev pub stops : {A : Type 0} → List ℕ → Reason → Result A Stop
 stops bytes reason = Err (record { reason = reason; left = length bytes })
-
-infixl 10 ◌>>=◌
-abbrev pub ◌>>=◌ : {A B : Type 0} → Result A Stop → (A → Result B Stop) → Result B Stop
-(Ok x) >>= f = f x
-(Err stop) >>= f = Err stop
 
 abbrev pub at_token : {A : Type 0} → List ℕ → Result A Reason → Result A Stop
 at_token bytes (Ok x) = Ok x

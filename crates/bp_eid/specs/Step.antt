@@ -10,11 +10,6 @@ use Rattle.bp_eid.specs.declared.eid.Eid.TheVariants as ids
 use Rattle.bp_eid.specs.declared.reading.Found.{Found}
 use Rattle.bp_eid.specs.declared.reading.Found.TheVariants as found
 
--- it is what reading gives, seen by `view`
-abbrev pub Stands : {X Y : Type 0} → (X → Y) → Result X Stop → Result Y Stop → Type 0
-Stands view (Ok x) read = read ≡ Ok (view x)
-Stands view (Err stop) read = read ≡ Err stop
-
 -- It is the id that reading gives, or where reading stops. Memory runs out only where the id has a text.
 abbrev pub GivesId : Result (Eid × Bor (List ℕ)) ReadError → Result (Eid × List ℕ) Stop → Type 0
 GivesId (Ok x) read = read ≡ Ok (x.0, x.1.now)

@@ -1,7 +1,8 @@
 //! Reading an endpoint id, token by token. The calls on tokens serve the readers of other items too.
 
 ghost use Rattle.std.specs.Prelude.{◌≡◌, ◌≤◌, ◌++◌, ℕ, List, length, take, Ok, Err, Some, IfOk, IfSome, IsSomeAnd, OnErr};
-ghost use Rattle.bp_eid.specs.Step.{Stands, GivesId, eid_of};
+ghost use Rattle.cbor_profile.specs.Step.{Stands};
+ghost use Rattle.bp_eid.specs.Step.{GivesId, eid_of};
 ghost use Rattle.bp_eid.specs.Reading.{Answers, head_at, pair_at, number_at, content_at, dtn_at, ipn_at, id_at, read_id};
 ghost use Rattle.bp_eid.specs.EndpointId.{spelling, Fits, HasText};
 ghost use Rattle.bp_eid.specs.declared.eid.Eid.{Eid};

@@ -34,7 +34,9 @@ impl Stop {
 /// Why nothing was read.
 #[derive(Clone, Copy, Debug, PartialEq, Eq)]
 pub enum ReadError {
+    /// Reading stops at this token.
     Stop(Stop),
+    /// No memory was left.
     NoMemory,
 }
 

@@ -2,13 +2,12 @@
 
 ghost use Rattle.std.specs.Prelude.{◌≡◌, ◌+◌, ◌<◌, ◌≤◌, ◌^◌, ◌++◌, ℕ, List, length, take, OnOk, OnErr};
 ghost use Rattle.cbor_profile.specs.Feeds.{Feeds};
-ghost use Rattle.cbor_profile.specs.Head.{IsHead, head_spelling};
 ghost use Rattle.bp_eid.specs.EndpointId.{spelling, Fits};
 
 use crate::eid::Eid;
 use cbor_profile::{
-    Bytes, Feed, Head, NoMemory, feed_array, feed_text, feed_uint, head_bytes, put_array, put_text,
-    put_uint,
+    Bytes, Feed, NoMemory, feed_array, feed_text, feed_uint, put_array, put_text, put_uint,
+    uint_size,
 };
 
 impl Eid {
@@ -48,17 +47,6 @@ impl Eid {
     }
 }
 
-/// How many bytes a head has.
-fn head_size(major: u8, value: u64) -> u64
-    requires { IsHead (record { major = major; value = value }) }
-    ensures size { result ≡ length (head_spelling major value) }
-    ensures most { result ≤ 9 }
-    ensures short { value < 2 ^ 16 → result ≤ 3 }
-{
-    let bytes = head_bytes(Head { major, value });
-    bytes.as_slice().len() as u64
-}
-
 impl Eid {
     /// Feeds the spelling. Takes no memory.
     pub fn feed_into<F: Feed>(&self, into: &mut F)
@@ -94,9 +82,9 @@ impl Eid {
             Eid::Null => 3,
             Eid::Dtn(text) => {
                 let len = text.bytes().len() as u64;
-                2 + head_size(3, len) + len
+                2 + uint_size(len) + len
             }
-            Eid::Ipn { node, service } => 3 + head_size(0, *node) + head_size(0, *service),
+            Eid::Ipn { node, service } => 3 + uint_size(*node) + uint_size(*service),
         }
     }
 }

@@ -29,7 +29,8 @@ use Rattle.bp_fragments.specs.declared.fault.FinishFault.{FinishFault}
 use Rattle.bp_fragments.specs.declared.fault.FinishFault.TheVariants as ends
 use Rattle.bp_fragments.proofs.Members.{contains_first, find_is, is_found}
 use Rattle.bp_fragments.proofs.Bytes.{byte_inside, byte_from, length-known, get_known}
-use Rattle.bp_fragments.proofs.Sizes.{head_same, length-bytes, payload_changed}
+use Rattle.cbor_profile.proofs.Sizes.{head_same, length-bytes}
+use Rattle.bp_fragments.proofs.Sizes.{payload_changed}
 
 -- ---- what is joined, by what is gathered
 

@@ -19,7 +19,8 @@ use Rattle.bp_bundle.proofs.Sizes.{spelled, whole_size}
 use Rattle.bp_bundle.specs.Edits.{check_size}
 use Rattle.bp_fragments.specs.Fragment.{body_of, payload}
 use Rattle.bp_fragments.specs.Cut.{fragment_at, fragment_flags, fragment_primary, is_kept}
-use Rattle.bp_fragments.proofs.Sizes.{head_at_least, head_one, five_at_most, head_at_most, head_grows, length-bytes, payload_changed, primary_size, kept_less}
+use Rattle.cbor_profile.proofs.Sizes.{head_at_least, head_one, five_at_most, uint_at_most, head_grows, length-bytes}
+use Rattle.bp_fragments.proofs.Sizes.{payload_changed, primary_size, kept_less}
 use Rattle.bp_fragments.proofs.Cutting.{kept_last}
 
 -- ---- how long a fragment is
@@ -47,7 +48,7 @@ length-string content = length-bytes content
 
 string_grows : (n m : ℕ) → n ≤ m → m < 2 ^ 32 → string_size n + (m - n) ≤ string_size m
 unfolding string_size
-string_grows n m le fits = let grows = head_grows 2 n m le fits in omega arith
+string_grows n m le fits = let grows = head_grows 2 n m le in omega arith
 
 piece_bytes : Contents → ℕ → ℕ → List ℕ
 piece_bytes bundle size index = take size (drop (index * size) (payload bundle))
@@ -81,10 +82,6 @@ fragment_length bundle size index =
 uint_few : (n : ℕ) → n < 2 ^ 32 → length (uint n) ≤ 5
 unfolding uint
 uint_few n fits = five_at_most 0 n fits
-
-uint_most : (n : ℕ) → length (uint n) ≤ 9
-unfolding uint
-uint_most n = head_at_most 0 n
 
 uint_one : (n : ℕ) → n < 24 → length (uint n) ≡ 1
 unfolding uint
@@ -128,7 +125,7 @@ later_fits bundle size index is place first =
       | inr far ↦ (
           let few = uint_few (index * size) (omega arith) in
           let few_total = uint_few len fits in
-          let most = uint_most (fragment_flags bundle.primary.flags) in
+          let most = uint_at_most (fragment_flags bundle.primary.flags) in
           let some = uint_some bundle.primary.flags in
           let least = whole_at_least bundle.primary in
           let limit = is.within in

@@ -1,10 +1,9 @@
 -- How many bytes heads, blocks and primary blocks have.
-use Rattle.std.proofs.Common.{◌≡◌, ℕ, suc, ◌+◌, ◌-◌, ◌^◌, ◌<◌, ◌≤◌, Bool, true, false, cond, List, [], ◌∷◌, length, Some, inl, inr, refl, sym, ◌∙◌, ap, arith, length-append}
+use Rattle.std.proofs.Common.{◌≡◌, ℕ, suc, ◌+◌, ◌-◌, ◌<◌, ◌≤◌, Bool, true, false, cond, List, [], ◌∷◌, length, Some, refl, sym, ◌∙◌, ap, arith, length-append}
 use Rattle.std.specs.Prelude.{filter}
 use Rattle.std.specs.List.{slice_get}
-use Rattle.std.proofs.lemmas.Bool.{cases_lt, lt-ltb, le-ltb}
-use Rattle.cbor_profile.specs.Head.{head_spelling}
 use Rattle.cbor_profile.specs.Put.{uint, byte_string, array_head}
+use Rattle.cbor_profile.proofs.Sizes.{head_one}
 use Rattle.bp_crc.specs.declared.kind.CheckKind.{CheckKind}
 use Rattle.bp_crc.specs.declared.kind.CheckKind.TheVariants as kinds
 use Rattle.bp_crc.specs.Item.{check_type, check_count, check_item, zeros}
@@ -13,7 +12,7 @@ use Rattle.bp_primary.specs.Fragment.{fragment_count, fragment_items}
 use Rattle.bp_primary.specs.Spelling as primaries
 use Rattle.bp_primary.specs.Spelling.{front, nodes, times}
 use Rattle.bp_primary.proofs.Pieces as primary_pieces
-use Rattle.bp_primary.proofs.Pieces.{small_head, few_items, small_type}
+use Rattle.bp_primary.proofs.Pieces.{few_items, small_type}
 use Rattle.bp_blocks.proofs.Pieces as block_pieces
 use Rattle.bp_blocks.specs.declared.block.Block.{Block}
 use Rattle.bp_blocks.specs.Spelling as blocks
@@ -21,140 +20,6 @@ use Rattle.bp_bundle.specs.Edits.{body_at}
 use Rattle.bp_bundle.proofs.Sizes.{spelled}
 use Rattle.bp_bundle.specs.Edits.{check_size}
 use Rattle.bp_fragments.specs.Fragment.{body_of, with_payload}
-
--- ---- heads
-
-pub head_at_least : (major n : ℕ) → 1 ≤ length (head_spelling major n)
-head_at_least major n =
-    elim (cases_lt n 24) [
-      | inl lt ↦ rw (lt-ltb _ _ lt) (omega arith)
-      | inr le ↦ rw (le-ltb _ _ le) (elim (cases_lt n (2 ^ 8)) [
-        | inl lt ↦ rw (lt-ltb _ _ lt) (omega arith)
-        | inr le ↦ rw (le-ltb _ _ le) (elim (cases_lt n (2 ^ 16)) [
-          | inl lt ↦ rw (lt-ltb _ _ lt) (omega arith)
-          | inr le ↦ rw (le-ltb _ _ le) (elim (cases_lt n (2 ^ 32)) [
-            | inl lt ↦ rw (lt-ltb _ _ lt) (omega arith)
-            | inr le ↦ rw (le-ltb _ _ le) (omega arith)
-          ])
-        ])
-      ])
-    ]
-
-pub head_one : (major n : ℕ) → n < 24 → length (head_spelling major n) ≡ 1
-head_one major n lt = rw (lt-ltb _ _ lt) refl
-
--- a head of a number that isn't below 24, 2^8, 2^16 has at least so many bytes
-two_at_least : (major n : ℕ) → 24 ≤ n → 2 ≤ length (head_spelling major n)
-two_at_least major n ge =
-    rw (le-ltb _ _ ge) (elim (cases_lt n (2 ^ 8)) [
-      | inl lt ↦ rw (lt-ltb _ _ lt) (omega arith)
-      | inr le ↦ rw (le-ltb _ _ le) (elim (cases_lt n (2 ^ 16)) [
-        | inl lt ↦ rw (lt-ltb _ _ lt) (omega arith)
-        | inr le ↦ rw (le-ltb _ _ le) (elim (cases_lt n (2 ^ 32)) [
-          | inl lt ↦ rw (lt-ltb _ _ lt) (omega arith)
-          | inr le ↦ rw (le-ltb _ _ le) (omega arith)
-        ])
-      ])
-    ])
-
-three_at_least : (major n : ℕ) → 2 ^ 8 ≤ n → 3 ≤ length (head_spelling major n)
-three_at_least major n ge =
-    let low : 24 ≤ n = omega arith in
-    rw (le-ltb _ _ low, le-ltb _ _ ge) (elim (cases_lt n (2 ^ 16)) [
-      | inl lt ↦ rw (lt-ltb _ _ lt) (omega arith)
-      | inr le ↦ rw (le-ltb _ _ le) (elim (cases_lt n (2 ^ 32)) [
-        | inl lt ↦ rw (lt-ltb _ _ lt) (omega arith)
-        | inr le ↦ rw (le-ltb _ _ le) (omega arith)
-      ])
-    ])
-
-five_at_least : (major n : ℕ) → 2 ^ 16 ≤ n → 5 ≤ length (head_spelling major n)
-five_at_least major n ge =
-    let low : 24 ≤ n = omega arith in
-    let high : 2 ^ 8 ≤ n = omega arith in
-    rw (le-ltb _ _ low, le-ltb _ _ high, le-ltb _ _ ge) (elim (cases_lt n (2 ^ 32)) [
-      | inl lt ↦ rw (lt-ltb _ _ lt) (omega arith)
-      | inr le ↦ rw (le-ltb _ _ le) (omega arith)
-    ])
-
--- and of one below 2^8, 2^16, 2^32 at most so many
-two_at_most : (major n : ℕ) → n < 2 ^ 8 → length (head_spelling major n) ≤ 2
-two_at_most major n less =
-    elim (cases_lt n 24) [
-      | inl lt ↦ rw (lt-ltb _ _ lt) (omega arith)
-      | inr le ↦ rw (le-ltb _ _ le, lt-ltb _ _ less) (omega arith)
-    ]
-
-three_at_most : (major n : ℕ) → n < 2 ^ 16 → length (head_spelling major n) ≤ 3
-three_at_most major n less =
-    elim (cases_lt n 24) [
-      | inl lt ↦ rw (lt-ltb _ _ lt) (omega arith)
-      | inr le ↦ rw (le-ltb _ _ le) (elim (cases_lt n (2 ^ 8)) [
-        | inl lt ↦ rw (lt-ltb _ _ lt) (omega arith)
-        | inr le ↦ rw (le-ltb _ _ le, lt-ltb _ _ less) (omega arith)
-      ])
-    ]
-
-pub five_at_most : (major n : ℕ) → n < 2 ^ 32 → length (head_spelling major n) ≤ 5
-five_at_most major n less =
-    elim (cases_lt n 24) [
-      | inl lt ↦ rw (lt-ltb _ _ lt) (omega arith)
-      | inr le ↦ rw (le-ltb _ _ le) (elim (cases_lt n (2 ^ 8)) [
-        | inl lt ↦ rw (lt-ltb _ _ lt) (omega arith)
-        | inr le ↦ rw (le-ltb _ _ le) (elim (cases_lt n (2 ^ 16)) [
-          | inl lt ↦ rw (lt-ltb _ _ lt) (omega arith)
-          | inr le ↦ rw (le-ltb _ _ le, lt-ltb _ _ less) (omega arith)
-        ])
-      ])
-    ]
-
--- the head of a greater number isn't shorter, below 2^32
-pub head_grows : (major n m : ℕ) → n ≤ m → m < 2 ^ 32 → length (head_spelling major n) ≤ length (head_spelling major m)
-head_grows major n m le fits =
-    elim (cases_lt n 24) [
-      | inl lt ↦ (let one = head_one major n lt in let some = head_at_least major m in omega arith)
-      | inr ge ↦ (elim (cases_lt n (2 ^ 8)) [
-        | inl lt ↦ (let few = two_at_most major n lt in let some = two_at_least major m (omega arith) in omega arith)
-        | inr ge ↦ (elim (cases_lt n (2 ^ 16)) [
-          | inl lt ↦ (let few = three_at_most major n lt in let some = three_at_least major m (omega arith) in omega arith)
-          | inr ge ↦ (let few = five_at_most major n (omega arith) in let some = five_at_least major m (omega arith) in omega arith)
-        ])
-      ])
-    ]
-
--- at most nine bytes
-pub head_at_most : (major n : ℕ) → length (head_spelling major n) ≤ 9
-head_at_most major n =
-    elim (cases_lt n (2 ^ 32)) [
-      | inl lt ↦ (let few = five_at_most major n lt in omega arith)
-      | inr ge ↦ (
-          let a : 24 ≤ n = omega arith in
-          let b : 2 ^ 8 ≤ n = omega arith in
-          let c : 2 ^ 16 ≤ n = omega arith in
-          rw (le-ltb _ _ a, le-ltb _ _ b, le-ltb _ _ c, le-ltb _ _ ge) (omega arith)
-          )
-    ]
-
--- the length of a head is that of its number alone
-pub head_same : (major other n : ℕ) → length (head_spelling major n) ≡ length (head_spelling other n)
-head_same major other n =
-    elim (cases_lt n 24) [
-      | inl lt ↦ rw (lt-ltb _ _ lt) refl
-      | inr le ↦ rw (le-ltb _ _ le) (elim (cases_lt n (2 ^ 8)) [
-        | inl lt ↦ rw (lt-ltb _ _ lt) refl
-        | inr le ↦ rw (le-ltb _ _ le) (elim (cases_lt n (2 ^ 16)) [
-          | inl lt ↦ rw (lt-ltb _ _ lt) refl
-          | inr le ↦ rw (le-ltb _ _ le) (elim (cases_lt n (2 ^ 32)) [
-            | inl lt ↦ rw (lt-ltb _ _ lt) refl
-            | inr le ↦ rw (le-ltb _ _ le) refl
-          ])
-        ])
-      ])
-    ]
-
-pub length-bytes : (content : List ℕ) → length (byte_string content) ≡ length (head_spelling 2 (length content)) + length content
-unfolding byte_string
-length-bytes content = length-append (head_spelling 2 (length content)) content
 
 -- ---- a block, and a primary block
 
@@ -171,12 +36,12 @@ few_checks kinds.Crc32c = omega arith
 
 number_size : (n : ℕ) → n < 24 → length (uint n) ≡ 1
 unfolding uint
-number_size n small = small_head 0 n small
+number_size n small = head_one 0 n small
 
 block_size : (block : Block) → length (blocks.spelling block) ≡ 2 + length (uint block.kind) + length (uint block.number) + length (uint block.flags) + length (byte_string block.body) + check_size block.crc
 unfolding blocks.array_with array_head
 block_size block =
-    let items = small_head 4 (5 + check_count block.crc) (few_checks block.crc) in
+    let items = head_one 4 (5 + check_count block.crc) (few_checks block.crc) in
     let type = number_size (check_type block.crc) (small_type block.crc) in
     let item = item_size block.crc in
     rw (block_pieces.length-spelling block) (simp length-append (omega arith))
@@ -184,7 +49,7 @@ block_size block =
 pub primary_size : (primary : Primary) → length (primaries.spelling primary) ≡ 3 + length (uint primary.flags) + length (nodes primary) + length (times primary) + length (fragment_items primary.fragment) + check_size primary.crc
 unfolding primaries.array_with front array_head
 primary_size primary =
-    let items = small_head 4 (8 + fragment_count primary.fragment + check_count primary.crc) (few_items primary) in
+    let items = head_one 4 (8 + fragment_count primary.fragment + check_count primary.crc) (few_items primary) in
     let version = number_size 7 (omega arith) in
     let type = number_size (check_type primary.crc) (small_type primary.crc) in
     let item = item_size primary.crc in

@@ -16,6 +16,3 @@ mod spans;
 pub use assembly::Assembly;
 pub use cut::{CutFault, fragment};
 pub use fault::{AddFault, FinishFault};
-
-#[cfg(test)]
-mod tests;

@@ -1,7 +1,5 @@
 -- Pieces fed one after another, and how long they are.
 use Rattle.std.proofs.Common.{◌≡◌, ℕ, ◌+◌, ◌<◌, ◌≤◌, List, length, refl, ap, arith, length-append}
-use Rattle.std.proofs.lemmas.Bool.{lt-ltb}
-use Rattle.cbor_profile.specs.Head.{head_spelling}
 use Rattle.cbor_profile.specs.Put.{byte_string}
 use Rattle.bp_crc.specs.Check.{check_bytes}
 use Rattle.bp_crc.specs.declared.kind.CheckKind.{CheckKind}
@@ -24,10 +22,6 @@ same_item Crc32c bytes = simp length-append
 pub length-spelling : (primary : Primary) → length (spelling primary) ≡ length (array_with primary (zeros primary.crc))
 unfolding spelling array_with
 length-spelling primary = let item = same_item primary.crc (array_with primary (zeros primary.crc)) in simp length-append (omega (arith, item))
-
--- a small argument stands in the first byte
-pub small_head : (major argument : ℕ) → argument < 24 → length (head_spelling major argument) ≡ 1
-small_head major argument small = rw (lt-ltb _ _ small) refl
 
 -- the spelling of a block with this kind of check
 pub spelling-at : (primary : Primary) (kind : CheckKind) → primary.crc ≡ kind → spelling primary ≡ array_with primary (check_bytes kind (array_with primary (zeros primary.crc)))

@@ -2,10 +2,11 @@
 use Rattle.std.proofs.Common.{◌≡◌, ℕ, ◌+◌, ◌<◌, ◌≤◌, List, [], ◌∷◌, ◌++◌, map, length, get_or, take, drop, Some, Result, Ok, Err, refl, sym, ◌∙◌, ap, append_assoc, add-one, arith}
 use Rattle.std.proofs.Math.Seq.{drop-cons}
 use Rattle.std.proofs.lemmas.List.{length-map, get_or-map, take_more, append-nil, at_drop_all}
+use Rattle.cbor_profile.specs.Step.{◌>>=◌}
 use Rattle.serde_json.specs.Data.{Data}
 use Rattle.bp_text.specs.declared.fault.TextReason.{TextReason}
 use Rattle.bp_text.specs.declared.fault.TextFault.{TextFault}
-use Rattle.bp_text.specs.Fault.{◌>>=◌, at_entry}
+use Rattle.bp_text.specs.Fault.{at_entry}
 use Rattle.bp_text.specs.Entries.{name_of, taking, taken_by, entry_at, entries_at}
 
 -- what is read, with these before it

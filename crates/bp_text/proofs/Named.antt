@@ -4,11 +4,12 @@ use Rattle.std.specs.Prelude.{IsOk}
 use Rattle.std.specs.List.{IsDistinct, AllByRecursion, list_all}
 use Rattle.std.specs.Str.{bytes_eq}
 use Rattle.std.proofs.lemmas.Map.Keys.{IsDistinct-cons}
+use Rattle.cbor_profile.specs.Step.{◌>>=◌}
 use Rattle.serde_json.specs.Data.{Data}
 use Rattle.bp_text.specs.declared.fault.TextReason.{TextReason}
 use Rattle.bp_text.specs.declared.fault.TextReason.TheVariants.{RepeatedName}
 use Rattle.bp_text.specs.declared.fault.TextFault.{TextFault}
-use Rattle.bp_text.specs.Fault.{◌>>=◌, unless, at_entry}
+use Rattle.bp_text.specs.Fault.{unless, at_entry}
 use Rattle.bp_text.specs.Shape.{is_listed}
 use Rattle.bp_text.specs.Entries.{name_of, is_taken, taking, names_of, entry_at, entries_at}
 

@@ -1,10 +1,11 @@
 -- Lists of entries.
 use Rattle.std.specs.Prelude.{ℕ, ◌+◌, Bool, false, not, List, [], ◌∷◌, codes, Option, Some, None, Result, Ok}
+use Rattle.cbor_profile.specs.Step.{◌>>=◌}
 use Rattle.serde_json.specs.Data.{Data}
 use Rattle.bp_text.specs.declared.fault.TextReason.{TextReason}
 use Rattle.bp_text.specs.declared.fault.TextReason.TheVariants.{RepeatedName}
 use Rattle.bp_text.specs.declared.fault.TextFault.{TextFault}
-use Rattle.bp_text.specs.Fault.{◌>>=◌, unless, at_entry}
+use Rattle.bp_text.specs.Fault.{unless, at_entry}
 use Rattle.bp_text.specs.Tree.{text_at}
 use Rattle.bp_text.specs.Shape.{is_listed}
 

@@ -21,12 +21,6 @@ number_of NotABundle = 9
 
 -- ---- steps
 
--- the next step, where this one gave a value
-infixl 10 ◌>>=◌
-abbrev pub ◌>>=◌ : {A B E : Type 0} → Result A E → (A → Result B E) → Result B E
-(Ok x) >>= f = f x
-(Err e) >>= f = Err e
-
 -- nothing, where the test holds, else this reason
 abbrev pub unless : Bool → TextReason → Result (Unit {0}) TextReason
 unless holds reason = if holds then Ok tt else Err reason
@@ -47,25 +41,17 @@ top step = at_entry None step
 
 -- ---- what a function returned
 
--- it is what the field gives, seen by `view`, or memory ran out
+-- a fault of a field is that of its definition; memory may run out in each case
 abbrev pub IsFieldFault : {Y : Type 0} → FieldFault → Result Y TextReason → Type 0
 IsFieldFault fields.WrongShape read = read ≡ Err WrongShape
 IsFieldFault fields.UnknownWord read = read ≡ Err UnknownWord
 IsFieldFault fields.BadHex read = read ≡ Err BadHex
 IsFieldFault fields.NoMemory read = Unit {0}
 
-abbrev pub GivesField : {X Y : Type 0} → (X → Y) → Result X FieldFault → Result Y TextReason → Type 0
-GivesField view (Ok x) read = read ≡ Ok (view x)
-GivesField view (Err e) read = IsFieldFault e read
-
--- it is what the text gives, seen by `view`, or memory ran out
+-- a fault of a text is that of its definition; memory may run out in each case
 abbrev pub IsTextError : {Y : Type 0} → TextError → Result Y TextFault → Type 0
 IsTextError (errors.Fault fault) read = read ≡ Err fault
 IsTextError errors.NoMemory read = Unit {0}
-
-abbrev pub Gives : {X Y : Type 0} → (X → Y) → Result X TextError → Result Y TextFault → Type 0
-Gives view (Ok x) read = read ≡ Ok (view x)
-Gives view (Err e) read = IsTextError e read
 
 -- the error of a text whose field at this entry has this fault
 abbrev pub error_at : Option ℕ → FieldFault → TextError

@@ -1,5 +1,6 @@
 -- Fields whose texts stand for something.
 use Rattle.std.specs.Prelude.{ℕ, ◌&&◌, nat_le, if◌then◌else◌, List, length, Option, Some, None, is_some, Result, Ok, Err}
+use Rattle.cbor_profile.specs.Step.{◌>>=◌}
 use Rattle.hex.specs.Hex.{decode_of}
 use Rattle.hex.specs.declared.error.FromHexError.{FromHexError}
 use Rattle.serde_json.specs.Data.{Data}
@@ -7,7 +8,7 @@ use Rattle.serde_json.specs.Find.{get}
 use Rattle.bp_eid.specs.declared.eid.Eid.{Eid}
 use Rattle.bp_text.specs.declared.fault.TextReason.{TextReason}
 use Rattle.bp_text.specs.declared.fault.TextReason.TheVariants.{WrongShape, UnknownWord, BadHex}
-use Rattle.bp_text.specs.Fault.{◌>>=◌, wanted}
+use Rattle.bp_text.specs.Fault.{wanted}
 use Rattle.bp_text.specs.Tree.{number_at, text_at, list_at}
 use Rattle.bp_text.specs.Shape.{wholes}
 use Rattle.bp_text.specs.IdText.{id_of_text}

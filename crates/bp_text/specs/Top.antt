@@ -1,10 +1,11 @@
 -- What the tops of all texts have in common.
 use Rattle.std.specs.Prelude.{ℕ, ◌==◌, Bool, nat_le, List, [], length, codes, unwrap_or, Result, Ok}
 use Rattle.std.specs.List.{list_any}
+use Rattle.cbor_profile.specs.Step.{◌>>=◌}
 use Rattle.serde_json.specs.Data.{Data}
 use Rattle.bp_text.specs.declared.fault.TextReason.{TextReason}
 use Rattle.bp_text.specs.declared.fault.TextReason.TheVariants.{WrongShape, Version}
-use Rattle.bp_text.specs.Fault.{◌>>=◌, unless, wanted}
+use Rattle.bp_text.specs.Fault.{unless, wanted}
 use Rattle.bp_text.specs.Tree.{number_at, list_at}
 
 -- the version: WrongShape where the top isn't an object with a whole number `version`, Version where it is none of these

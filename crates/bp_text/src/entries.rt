@@ -1,10 +1,11 @@
 //! Lists of entries.
 
 ghost use Rattle.std.specs.Prelude.{◌≡◌, ◌+◌, ◌<◌, ◌^◌, ℕ, List, Result, Some, length, map, not, IfOk, IfErr, OnOk};
+ghost use Rattle.cbor_profile.specs.Step.{Gives};
 ghost use Rattle.serde_json.specs.Data.{Data};
 ghost use Rattle.serde_json.specs.View.{view};
 ghost use Rattle.bp_text.specs.declared.fault.TextReason.{TextReason};
-ghost use Rattle.bp_text.specs.Fault.{Gives, GivesField, at_entry};
+ghost use Rattle.bp_text.specs.Fault.{IsFieldFault, IsTextError, at_entry};
 ghost use Rattle.bp_text.specs.Names.{AreKnown};
 ghost use Rattle.bp_text.specs.Entries.{entry_at, entries_at, is_taken, taking, taken_by, name_of};
 
@@ -22,7 +23,7 @@ pub trait Entry: Sized + Drop {
 
     /// Reads the entry in a text of this version.
     fn read(alloc: Global, version: u64, tree: &Value) -> Result<Self, FieldFault>
-        ensures { GivesField (λ entry. entry) result (reads version (view tree.now)) };
+        ensures { Gives IsFieldFault (λ entry. entry) result (reads version (view tree.now)) };
 }
 
 /// Notes the entry's name, and answers whether it is new. An entry without a name has a new one.
@@ -51,7 +52,7 @@ fn read_entry<E: Entry>(
     names: &mut Names,
 ) -> Result<E, TextError>
     ensures gives { (taken : List (List ℕ)) → AreKnown names.old taken
-        → Gives (λ entry. entry) result (at_entry (Some index) (entry_at (E.reads version) taken (view tree.now))) }
+        → Gives IsTextError (λ entry. entry) result (at_entry (Some index) (entry_at (E.reads version) taken (view tree.now))) }
     ensures known { (taken : List (List ℕ)) → AreKnown names.old taken
         → OnOk result (AreKnown names.new (taking (name_of (view tree.now)) taken)) }
 {
@@ -78,7 +79,7 @@ pub fn read_entries<E: Entry>(
 ) -> Result<List<E>, TextError>
     requires { first + length values.now < 2 ^ 64 }
     ensures gives { (taken : List (List ℕ)) → AreKnown names.old taken
-        → Gives (λ entries. entries) result (entries_at (E.reads version) first taken (map view values.now)) }
+        → Gives IsTextError (λ entries. entries) result (entries_at (E.reads version) first taken (map view values.now)) }
     ensures known { (taken : List (List ℕ)) → AreKnown names.old taken
         → OnOk result (AreKnown names.new (taken_by taken (map view values.now))) }
 {

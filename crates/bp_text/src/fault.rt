@@ -51,7 +51,9 @@ pub struct TextFault {
 /// Why a text wasn't read.
 #[derive(Clone, Copy, Debug, PartialEq, Eq)]
 pub enum TextError {
+    /// It is no such text: this is its first fault.
     Fault(TextFault),
+    /// No memory was left.
     NoMemory,
 }
 
@@ -97,6 +99,7 @@ pub enum FieldFault {
     UnknownWord,
     /// The text there isn't hexadecimal, or stands for too few or too many bytes.
     BadHex,
+    /// No memory was left.
     NoMemory,
 }
 

@@ -1,8 +1,9 @@
 //! Fields of an object.
 
 ghost use Rattle.std.specs.Prelude.{◌≡◌, map, option_map};
+ghost use Rattle.cbor_profile.specs.Step.{Gives};
 ghost use Rattle.serde_json.specs.View.{view};
-ghost use Rattle.bp_text.specs.Fault.{GivesField};
+ghost use Rattle.bp_text.specs.Fault.{IsFieldFault};
 ghost use Rattle.bp_text.specs.Tree.{number_at, signed_at, text_at, flag_at, values_of, list_at};
 ghost use Rattle.bp_text.specs.Field.{eid_at, hex_at};
 
@@ -64,7 +65,7 @@ pub fn list_field<'a>(tree: &'a Value, key: &str) -> Option<&'a [Value]>
 /// The endpoint id at a key: WrongShape where no text is there, UnknownWord where it is the text of no id.
 #[tactic(auto, unfolding(crate::specs::Field::eid_at))]
 pub fn eid_field(alloc: Global, tree: &Value, key: &str) -> Result<Eid, FieldFault>
-    ensures { GivesField (λ eid. eid) result (eid_at key.now (view tree.now)) }
+    ensures { Gives IsFieldFault (λ eid. eid) result (eid_at key.now (view tree.now)) }
 {
     let Some(text) = word_field(tree, key) else {
         return Err(FieldFault::WrongShape);
@@ -86,7 +87,7 @@ pub fn hex_field(
     least: u64,
     most: u64,
 ) -> Result<Bytes, FieldFault>
-    ensures { GivesField (λ bytes. bytes) result (hex_at least most key.now (view tree.now)) }
+    ensures { Gives IsFieldFault (λ bytes. bytes) result (hex_at least most key.now (view tree.now)) }
 {
     let Some(text) = word_field(tree, key) else {
         return Err(FieldFault::WrongShape);

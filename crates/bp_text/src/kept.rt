@@ -2,10 +2,11 @@
 
 ghost use Rattle.std.specs.Prelude.{◌≡◌, ℕ, List, Result, IfOk, OnOk, ◌++◌, map};
 ghost use Rattle.std.specs.Option.{option_to_list};
+ghost use Rattle.cbor_profile.specs.Step.{Gives};
 ghost use Rattle.serde_json.specs.Data.{Data};
 ghost use Rattle.serde_json.specs.View.{view};
 ghost use Rattle.bp_text.specs.declared.fault.TextReason.{TextReason};
-ghost use Rattle.bp_text.specs.Fault.{GivesField};
+ghost use Rattle.bp_text.specs.Fault.{IsFieldFault};
 ghost use Rattle.bp_text.specs.Field.{bytes_at, eid_at, whole_at, wholes_at, optional};
 ghost use Rattle.bp_text.specs.Shape.{whole, wholes};
 
@@ -23,7 +24,7 @@ pub trait Field: Sized + Drop {
 
     /// Reads the value at a key.
     fn read(alloc: Global, tree: &Value, key: &str) -> Result<Self, FieldFault>
-        ensures { GivesField (λ field. field) result (reads key.now (view tree.now)) };
+        ensures { Gives IsFieldFault (λ field. field) result (reads key.now (view tree.now)) };
 }
 
 /// A text, as its bytes.
@@ -101,7 +102,7 @@ impl Field for List<u64> {
 /// Reads the value at a key, if the tree has the key.
 #[tactic(auto, unfolding(crate::specs::Field::optional))]
 pub fn optional<T: Field>(alloc: Global, tree: &Value, key: &str) -> Result<Option<T>, FieldFault>
-    ensures { GivesField (λ field. field) result (optional T.reads key.now (view tree.now)) }
+    ensures { Gives IsFieldFault (λ field. field) result (optional T.reads key.now (view tree.now)) }
 {
     if tree.get(key).is_none() {
         return Ok(None);

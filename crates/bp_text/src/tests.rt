@@ -36,8 +36,8 @@ struct Named(Bytes);
 
 impl Entry for Named {
     ghost use Rattle.std.specs.Prelude.{codes, Result, Ok, Err};
+    ghost use Rattle.cbor_profile.specs.Step.{◌>>=◌};
     ghost use Rattle.bp_text.specs.Field.{bytes_at};
-    ghost use Rattle.bp_text.specs.Fault.{◌>>=◌};
 
     ghost reads = { λ version d. bytes_at (codes "name") d >>= λ name. Ok (record { 0 = name }) };
 

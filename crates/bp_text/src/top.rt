@@ -1,9 +1,10 @@
 //! The top of a text.
 
 ghost use Rattle.std.specs.Prelude.{◌≡◌, ◌≢◌, IfErr, is_some};
+ghost use Rattle.cbor_profile.specs.Step.{Gives};
 ghost use Rattle.serde_json.specs.View.{view};
 ghost use Rattle.bp_text.specs.declared.fault.TextError.TheVariants as errors;
-ghost use Rattle.bp_text.specs.Fault.{Gives, top};
+ghost use Rattle.bp_text.specs.Fault.{IsTextError, top};
 ghost use Rattle.bp_text.specs.Top.{version_at, is_short};
 
 use crate::fault::{TextError, TextReason};
@@ -15,7 +16,7 @@ use serde_json::Value;
 /// none of these. Takes no memory.
 #[tactic(auto, unfolding(crate::specs::Top::version_at))]
 pub fn version_field(tree: &Value, versions: &[u64]) -> Result<u64, TextError>
-    ensures exact { Gives (λ version. version) result (top (version_at versions.now (view tree.now))) }
+    ensures exact { Gives IsTextError (λ version. version) result (top (version_at versions.now (view tree.now))) }
     ensures quiet { IfErr result (λ e. e ≢ errors.NoMemory) }
 {
     match number_field(tree, "version") {

@@ -1,8 +1,9 @@
 //! The tree that a text is read as.
 
 ghost use Rattle.std.specs.Prelude.{◌≡◌};
+ghost use Rattle.cbor_profile.specs.Step.{Gives};
 ghost use Rattle.serde_json.specs.View.{view};
-ghost use Rattle.bp_text.specs.Fault.{Gives, top};
+ghost use Rattle.bp_text.specs.Fault.{IsTextError, top};
 ghost use Rattle.bp_text.specs.Tree.{tree_of};
 
 use crate::fault::{TextError, TextFault, TextReason};
@@ -25,7 +26,7 @@ pub fn refused(reason: TextReason) -> TextError
 /// Reads a text as a tree: TooLong above 1,048,576 bytes, NotJson where it is no JSON text or nests deeper than 127.
 #[tactic(auto, unfolding(crate::specs::Tree::tree_of))]
 pub fn read_tree(alloc: Global, bytes: &[u8]) -> Result<Value, TextError>
-    ensures { Gives view result (top (tree_of bytes.now)) }
+    ensures { Gives IsTextError view result (top (tree_of bytes.now)) }
 {
     if bytes.len() > TEXT_LIMIT {
         return Err(refused(TextReason::TooLong));

@@ -4,10 +4,11 @@ use Rattle.std.specs.Prelude.{All, IfOk}
 use Rattle.std.proofs.lemmas.List.{append-nil, drop_at}
 use Rattle.cbor_profile.specs.declared.fault.SpellError.{SpellError}
 use Rattle.cbor_profile.specs.Put.{uint, int}
+use Rattle.cbor_profile.specs.Step.{◌>>=◌}
 use Rattle.bp_eid.specs.EndpointId as ids
 use Rattle.bp_eid.specs.declared.eid.Eid.{Eid}
 use Rattle.bp_eid.specs.declared.stop.Stop.{Stop}
-use Rattle.bp_eid.specs.Reading.{◌>>=◌, number_at, id_at}
+use Rattle.bp_eid.specs.Reading.{number_at, id_at}
 use Rattle.bp_eid.proofs.Steps.{IsBytes, IsBytes-drop, bind_ok, ok_is, Takes, Takes-then}
 use Rattle.bp_eid.proofs.Tokens.{number_again, number_means}
 use Rattle.bp_eid.proofs.Ids.{id_again, id_means}

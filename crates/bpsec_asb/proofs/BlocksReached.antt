@@ -1,16 +1,17 @@
 -- Where reading a security block stops, what stands before begins one.
-use Rattle.std.proofs.Common.{◌≡◌, ◌≢◌, ℕ, ℤ, pos, ◌+◌, ◌-◌, ◌^◌, ◌<◌, ◌≤◌, inl, inr, ◌⊎◌, Bool, true, false, List, [], ◌∷◌, ◌++◌, length, take, Option, Some, None, Result, Ok, Err, refl, sym, ◌∙◌, ap, subst, arith}
+use Rattle.std.proofs.Common.{◌≡◌, ◌≢◌, ℕ, ℤ, pos, ◌+◌, ◌-◌, ◌^◌, ◌<◌, ◌≤◌, inl, inr, ◌⊎◌, Bool, true, false, List, [], ◌∷◌, ◌++◌, length, Option, Some, None, Result, Ok, Err, refl, sym, ◌∙◌, ap, subst, arith}
 use Rattle.std.specs.Prelude.{All, AllPairs, FitsSigned, is_some}
 use Rattle.std.specs.Int.{w64}
 use Rattle.std.proofs.lemmas.Int.{ints}
 use Rattle.std.specs.Option.{ForSome}
-use Rattle.std.proofs.lemmas.List.{append-nil, length-append, take_at}
+use Rattle.std.proofs.lemmas.List.{append-nil}
 use Rattle.cbor_profile.specs.Put.{uint, int}
+use Rattle.cbor_profile.specs.Step.{◌>>=◌}
 use Rattle.bp_eid.specs.declared.eid.Eid.{Eid}
 use Rattle.bp_eid.specs.declared.eid.Eid.TheVariants.{Null}
 use Rattle.bp_eid.specs.declared.stop.Stop.{Stop}
 use Rattle.bp_eid.specs.EndpointId as ids
-use Rattle.bp_eid.specs.Reading.{◌>>=◌, number_at, id_at}
+use Rattle.bp_eid.specs.Reading.{number_at, id_at}
 use Rattle.bp_eid.proofs.Steps.{IsBytes}
 use Rattle.bp_eid.proofs.Tokens.{number_means}
 use Rattle.bp_eid.proofs.Ids.{id_means, chosen}

@@ -15,9 +15,10 @@ use Rattle.cbor_profile.specs.declared.item.ItemRead.TheVariants as items
 use Rattle.cbor_profile.specs.Head.{spelling, head_spelling}
 use Rattle.cbor_profile.specs.Put.{uint, int, array_head}
 use Rattle.cbor_profile.specs.Item.{IsItem, most_levels, read_item}
+use Rattle.cbor_profile.specs.Step.{◌>>=◌}
 use Rattle.cbor_profile.proofs.ItemGrammar.{item_read_again, item_read_means}
 use Rattle.bp_eid.specs.declared.stop.Stop.{Stop}
-use Rattle.bp_eid.specs.Reading.{◌>>=◌, stops, head_at, pair_at, number_at}
+use Rattle.bp_eid.specs.Reading.{stops, head_at, pair_at, number_at}
 use Rattle.bp_eid.proofs.Steps.{IsBytes, IsBytes-drop, bind_ok, passed, let_through, ok_is, Takes, Takes-then}
 use Rattle.bp_eid.proofs.Tokens.{head_again, head_means, spelled, took, pair_again, pair_means, number_again, number_means}
 use Rattle.bp_eid.proofs.Ids.{chosen}

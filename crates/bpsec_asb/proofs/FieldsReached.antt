@@ -6,8 +6,9 @@ use Rattle.std.proofs.lemmas.List.Elements.{All-nil}
 use Rattle.cbor_profile.specs.Head.{spelling}
 use Rattle.cbor_profile.specs.Put.{uint, array_head}
 use Rattle.cbor_profile.specs.Item.{IsItem, most_levels}
+use Rattle.cbor_profile.specs.Step.{◌>>=◌}
 use Rattle.bp_eid.specs.declared.stop.Stop.{Stop}
-use Rattle.bp_eid.specs.Reading.{◌>>=◌, pair_at, number_at}
+use Rattle.bp_eid.specs.Reading.{pair_at, number_at}
 use Rattle.bp_eid.proofs.Steps.{IsBytes}
 use Rattle.bp_eid.proofs.Tokens.{pair_means, number_means}
 use Rattle.bpsec_asb.specs.declared.asb.Pair.{Pair}

@@ -6,9 +6,10 @@ use Rattle.cbor_profile.specs.declared.fault.Reason.TheVariants as reasons
 use Rattle.cbor_profile.specs.declared.item.ItemRead.{ItemRead}
 use Rattle.cbor_profile.specs.declared.item.ItemRead.TheVariants as items
 use Rattle.cbor_profile.specs.Item.{read_item}
+use Rattle.cbor_profile.specs.Step.{◌>>=◌}
 use Rattle.cbor_profile.proofs.ItemFaults.{item_answer_stands, item_within}
 use Rattle.bp_eid.specs.declared.stop.Stop.{Stop}
-use Rattle.bp_eid.specs.Reading.{◌>>=◌, stops, head_at, pair_at, number_at, id_at}
+use Rattle.bp_eid.specs.Reading.{stops, head_at, pair_at, number_at, id_at}
 use Rattle.bp_eid.proofs.Growing.{with_more, rest_more, Stays, Grows, then_grows, either_grows, stops_grows, ok_grows, head_grows, pair_grows, number_grows, id_grows}
 use Rattle.bpsec_asb.specs.SecurityBlock.{has_parameters}
 use Rattle.bpsec_asb.specs.Reading.{count_at, each_at, array_at, target_at, context_at, after_item, value_at, pair_of, pairs_at, parameters_at, results_at, asb_at}

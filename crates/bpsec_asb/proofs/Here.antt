@@ -1,16 +1,11 @@
 -- Tokens are refused where they begin.
-use Rattle.std.proofs.Common.{◌≡◌, ℕ, pos, negsuc, ◌^◌, Bool, true, false, cond, ltb, leb, eqb, ◌&&◌, List, [], ◌∷◌, length, take, drop, Result, Ok, Err, ap}
+use Rattle.std.proofs.Common.{ℕ, pos, negsuc, ◌^◌, cond, ltb, leb, eqb, ◌&&◌, List, [], ◌∷◌, length, take, drop, Ok}
 use Rattle.std.specs.List.{list_any}
-use Rattle.cbor_profile.specs.declared.head.Head.{Head}
-use Rattle.cbor_profile.specs.declared.fault.Reason.{Reason}
 use Rattle.cbor_profile.specs.declared.fault.Reason.TheVariants as reasons
 use Rattle.cbor_profile.specs.declared.item.ItemRead.{ItemRead}
 use Rattle.cbor_profile.specs.declared.item.ItemRead.TheVariants as items
 use Rattle.cbor_profile.specs.Item.{read_item}
-use Rattle.cbor_profile.specs.Token.{token_head}
-use Rattle.bp_eid.specs.declared.stop.Stop.{Stop}
-use Rattle.bp_eid.specs.DtnText.{is_dtn_text}
-use Rattle.bp_eid.specs.Reading.{◌>>=◌, stops, at_token, head_at, pair_at, number_at, content_at}
+use Rattle.bp_eid.specs.Reading.{stops, head_at, number_at}
 use Rattle.bpsec_asb.specs.Reading.{count_at, target_at, context_at, after_item, value_at}
 use Rattle.bp_eid.proofs.Here.{StopsAt, stops_at, never_at, either_at, then_at, head_here, number_here}
 

@@ -4,8 +4,9 @@ use Rattle.std.proofs.lemmas.List.{length-append}
 use Rattle.cbor_profile.specs.declared.fault.Fault.{Fault}
 use Rattle.cbor_profile.specs.declared.fault.Reason.{Reason}
 use Rattle.cbor_profile.specs.declared.fault.Reason.TheVariants as reasons
+use Rattle.cbor_profile.specs.Step.{◌>>=◌}
 use Rattle.bp_eid.specs.declared.stop.Stop.{Stop}
-use Rattle.bp_eid.specs.Reading.{◌>>=◌, stops, place_of, fault_of}
+use Rattle.bp_eid.specs.Reading.{stops, place_of, fault_of}
 use Rattle.bp_eid.proofs.Growing.{with_more, grown, Stays}
 use Rattle.bp_eid.proofs.Answered.{place_stays}
 use Rattle.bpsec_asb.specs.declared.asb.Asb.{Asb}

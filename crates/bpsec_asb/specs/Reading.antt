@@ -9,8 +9,9 @@ use Rattle.cbor_profile.specs.declared.fault.SpellError.TheVariants as errors
 use Rattle.cbor_profile.specs.declared.item.ItemRead.{ItemRead}
 use Rattle.cbor_profile.specs.declared.item.ItemRead.TheVariants as items
 use Rattle.cbor_profile.specs.Item.{read_item}
+use Rattle.cbor_profile.specs.Step.{◌>>=◌}
 use Rattle.bp_eid.specs.declared.stop.Stop.{Stop}
-use Rattle.bp_eid.specs.Reading.{◌>>=◌, stops, head_at, pair_at, number_at, id_at, fault_of}
+use Rattle.bp_eid.specs.Reading.{stops, head_at, pair_at, number_at, id_at, fault_of}
 use Rattle.bpsec_asb.specs.declared.asb.Pair.{Pair}
 use Rattle.bpsec_asb.specs.declared.asb.Asb.{Asb}
 use Rattle.bpsec_asb.specs.SecurityBlock.{has_parameters}

@@ -1,5 +1,5 @@
 -- What a step of reading returned.
-use Rattle.std.specs.Prelude.{◌≡◌, Result, Ok, Err}
+use Rattle.std.specs.Prelude.{◌≡◌, Result, Err}
 use Rattle.bp_eid.specs.declared.stop.Stop.{Stop}
 use Rattle.bp_eid.specs.declared.stop.ReadError.{ReadError}
 use Rattle.bp_eid.specs.declared.stop.ReadError.TheVariants as errors
@@ -8,8 +8,3 @@ use Rattle.bp_eid.specs.declared.stop.ReadError.TheVariants as errors
 abbrev pub Fails : {Y : Type 0} → ReadError → Result Y Stop → Type 0
 Fails errors.NoMemory read = Unit {0}
 Fails (errors.Stop stop) read = read ≡ Err stop
-
--- it is what reading gives, seen by `view`, or memory ran out
-abbrev pub Gives : {X Y : Type 0} → (X → Y) → Result X ReadError → Result Y Stop → Type 0
-Gives view (Ok x) read = read ≡ Ok (view x)
-Gives view (Err e) read = Fails e read

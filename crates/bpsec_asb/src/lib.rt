@@ -17,6 +17,3 @@ pub use asb::{Asb, Pair};
 pub use covered::is_covered;
 pub use known::operations;
 pub use operation::{OpId, Service};
-
-#[cfg(test)]
-mod tests;

@@ -1,9 +1,10 @@
 //! Parameters and results.
 
 ghost use Rattle.std.specs.Prelude.{◌≡◌, ◌++◌, Ok, IfOk, OnOk, OnErr, length, take};
+ghost use Rattle.cbor_profile.specs.Step.{Gives};
 ghost use Rattle.bpsec_asb.specs.SecurityBlock.{pair, pairs};
 ghost use Rattle.bpsec_asb.specs.Reading.{value_at, pair_of, pairs_at};
-ghost use Rattle.bpsec_asb.specs.Step.{Gives};
+ghost use Rattle.bpsec_asb.specs.Step.{Fails};
 
 use crate::asb::Pair;
 use crate::part::{Part, copy_all, put_all, read_all};
@@ -25,7 +26,7 @@ fn copied(alloc: Global, bytes: &[u8]) -> Result<Bytes, NoMemory>
 /// The item at the front.
 #[tactic(auto, unfolding(crate::specs::Reading::value_at))]
 fn value(alloc: Global, bytes: &[u8]) -> Result<(Bytes, &[u8]), ReadError>
-    ensures { Gives (λ x. (x.0, x.1.now)) result (value_at bytes.now) }
+    ensures { Gives Fails (λ x. (x.0, x.1.now)) result (value_at bytes.now) }
 {
     let reason = match item_at(bytes) {
         ItemRead::Whole { len } => {
@@ -43,7 +44,7 @@ fn value(alloc: Global, bytes: &[u8]) -> Result<(Bytes, &[u8]), ReadError>
 /// The pair at the front.
 #[tactic(auto, unfolding(crate::specs::Reading::pair_of))]
 fn read_pair(alloc: Global, bytes: &[u8]) -> Result<(Pair, &[u8]), ReadError>
-    ensures { Gives (λ x. (x.0, x.1.now)) result (pair_of bytes.now) }
+    ensures { Gives Fails (λ x. (x.0, x.1.now)) result (pair_of bytes.now) }
 {
     let rest = pair(bytes)?;
     let (id, rest) = number(rest)?;

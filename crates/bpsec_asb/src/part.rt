@@ -1,10 +1,10 @@
 //! The items of the arrays of a security block: targets, pairs, and the results of one target.
 
 ghost use Rattle.std.specs.Prelude.{◌≡◌, ◌++◌, [], ◌∷◌, List, length, take, Ok, IfOk, OnOk, OnErr};
+ghost use Rattle.cbor_profile.specs.Step.{Stands, Gives};
 ghost use Rattle.bpsec_asb.specs.SecurityBlock.{array};
 ghost use Rattle.bpsec_asb.specs.Reading.{count_at, each_at, array_at};
-ghost use Rattle.bpsec_asb.specs.Step.{Gives};
-ghost use Rattle.bp_eid.specs.Step.{Stands};
+ghost use Rattle.bpsec_asb.specs.Step.{Fails};
 
 use bp_eid::reading::{head, stops};
 use bp_eid::{ReadError, Stop};
@@ -37,7 +37,7 @@ pub(crate) trait Part: Drop {
         before: &[Self],
         bytes: &'a [u8],
     ) -> Result<(Self, &'a [u8]), ReadError>
-        ensures { Gives (λ x. (x.0, x.1.now)) result (read_at before.now bytes.now) };
+        ensures { Gives Fails (λ x. (x.0, x.1.now)) result (read_at before.now bytes.now) };
 }
 
 /// Appends an array, or for want of memory a part of it.
@@ -81,7 +81,7 @@ fn count(least: u64, most: u64, bytes: &[u8]) -> Result<(u64, &[u8]), Stop>
 /// So many items.
 #[tactic(auto, unfolding(crate::specs::Reading::each_at))]
 fn each<T: Part>(alloc: Global, count: u64, bytes: &[u8]) -> Result<(List<T>, &[u8]), ReadError>
-    ensures { Gives (λ x. (x.0, x.1.now)) result (each_at T.read_at count [] bytes.now) }
+    ensures { Gives Fails (λ x. (x.0, x.1.now)) result (each_at T.read_at count [] bytes.now) }
 {
     let mut items = List::new(alloc);
     let mut rest = bytes;
@@ -102,7 +102,7 @@ pub(crate) fn read_all<T: Part>(
     most: u64,
     bytes: &[u8],
 ) -> Result<(List<T>, &[u8]), ReadError>
-    ensures { Gives (λ x. (x.0, x.1.now)) result (array_at T.read_at least most bytes.now) }
+    ensures { Gives Fails (λ x. (x.0, x.1.now)) result (array_at T.read_at least most bytes.now) }
 {
     let (count, rest) = count(least, most, bytes)?;
     each(alloc, count, rest)

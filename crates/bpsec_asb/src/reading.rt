@@ -1,8 +1,8 @@
 //! Reading a security block, token by token.
 
 ghost use Rattle.std.specs.Prelude.{◌≡◌, Ok, Err, IfOk};
-ghost use Rattle.bp_eid.specs.Step.{Stands};
-ghost use Rattle.bpsec_asb.specs.Step.{Gives};
+ghost use Rattle.cbor_profile.specs.Step.{Stands, Gives};
+ghost use Rattle.bpsec_asb.specs.Step.{Fails};
 ghost use Rattle.bpsec_asb.specs.SecurityBlock.{Reads};
 ghost use Rattle.bpsec_asb.specs.Reading.{Answers, context_at, parameters_at, asb_at, read_body};
 ghost use Rattle.bpsec_asb.specs.declared.asb.Asb.{Asb};
@@ -42,7 +42,7 @@ fn parameters(
     flags: u64,
     bytes: &[u8],
 ) -> Result<(Option<List<Pair>>, &[u8]), ReadError>
-    ensures { Gives (λ x. (x.0, x.1.now)) result (parameters_at flags bytes.now) }
+    ensures { Gives Fails (λ x. (x.0, x.1.now)) result (parameters_at flags bytes.now) }
 {
     if flags % 2 == 0 {
         return Ok((None, bytes));
@@ -54,7 +54,7 @@ fn parameters(
 /// A security block at the front.
 #[tactic(auto, unfolding(crate::specs::Reading::asb_at))]
 fn front(alloc: Global, bytes: &[u8]) -> Result<(Asb, &[u8]), ReadError>
-    ensures { Gives (λ x. (x.0, x.1.now)) result (asb_at bytes.now) }
+    ensures { Gives Fails (λ x. (x.0, x.1.now)) result (asb_at bytes.now) }
 {
     let (targets, rest) = read_all::<u64>(alloc, 1, TARGET_LIMIT, bytes)?;
     let (context, rest) = context(rest)?;

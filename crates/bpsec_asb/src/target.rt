@@ -2,7 +2,7 @@
 
 ghost use Rattle.std.specs.Prelude.{◌≡◌, Ok};
 ghost use Rattle.cbor_profile.specs.Put.{uint};
-ghost use Rattle.bp_eid.specs.Step.{Stands};
+ghost use Rattle.cbor_profile.specs.Step.{Stands};
 ghost use Rattle.bpsec_asb.specs.Reading.{target_at};
 
 use crate::part::Part;

@@ -2,7 +2,8 @@
 
 ghost use Rattle.std.specs.Prelude.{◌≡◌, ◌<◌, ◌∷◌, ◌++◌, ℕ, [], List};
 ghost use Rattle.std.specs.Prelude.{Result, Err, None, length, codes, refl, IfOk, IsErrOf};
-ghost use Rattle.bp_text.specs.Fault.{Gives};
+ghost use Rattle.cbor_profile.specs.Step.{Gives};
+ghost use Rattle.bp_text.specs.Fault.{IsTextError};
 ghost use Rattle.bp_text.specs.declared.fault.TextFault.{TextFault};
 ghost use Rattle.bp_text.specs.declared.fault.TextReason.TheVariants.{TooLong};
 ghost use Rattle.bp_build.specs.BuildText.{build_of};
@@ -40,7 +41,7 @@ pub trait NamedText: Sized + Drop {
 
     /// Reads the bytes.
     fn read(alloc: Global, bytes: &[u8]) -> Result<Self, TextError>
-        ensures { Gives (λ text. text) result (reads bytes.now) };
+        ensures { Gives IsTextError (λ text. text) result (reads bytes.now) };
 
     fn word() -> &'static str
         ensures { result.now ≡ told_as };

@@ -27,6 +27,3 @@ pub use judgement::{Judgement, MissetReason};
 pub use pair_suite::{DefaultSuite, PairSuite};
 pub use service::ServiceOf;
 pub use suite::Suite;
-
-#[cfg(test)]
-mod tests;

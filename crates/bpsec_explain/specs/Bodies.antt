@@ -1,10 +1,11 @@
 -- The lines of the bodies of extension blocks (RFC 9171, section 4.4).
 use Rattle.std.specs.Prelude.{ℕ, ◌==◌, ◌&&◌, nat_le, if◌then◌else◌, List, [], ◌∷◌, ◌++◌, length, Result, Ok, Err, codes}
 use Rattle.cbor_profile.specs.declared.fault.Fault.{Fault}
+use Rattle.cbor_profile.specs.Step.{◌>>=◌}
 use Rattle.bp_eid.specs.declared.reading.EidAt.{EidAt}
 use Rattle.bp_eid.specs.declared.stop.Stop.{Stop}
 use Rattle.bp_eid.specs.EndpointId.{text_form}
-use Rattle.bp_eid.specs.Reading.{◌>>=◌, pair_at, number_at, read_id}
+use Rattle.bp_eid.specs.Reading.{pair_at, number_at, read_id}
 use Rattle.bpsec_explain.specs.Texts.{newline, number, unreadable_line}
 
 -- one endpoint id, and nothing more (section 4.4.1)

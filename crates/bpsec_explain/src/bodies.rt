@@ -1,7 +1,7 @@
 //! The lines of the bodies of extension blocks.
 
 ghost use Rattle.std.specs.Prelude.{◌≡◌, ◌++◌, Ok, OnOk};
-ghost use Rattle.bp_eid.specs.Step.{Stands};
+ghost use Rattle.cbor_profile.specs.Step.{Stands};
 ghost use Rattle.bpsec_explain.specs.Bodies.{previous_node_line, age_line, hops_at, limits, hops_line};
 
 use crate::text::put_number;

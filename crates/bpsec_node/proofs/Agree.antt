@@ -1,20 +1,19 @@
 -- What doesn't change where keys agree.
 use Rattle.std.proofs.Common.{◌≡◌, ℕ, inl, inr, Bool, true, false, ◌&&◌, ◌||◌, not, cond, eqb, List, [], ◌∷◌, map, Option, Some, None, refl, sym, ◌∙◌, ap, subst}
-use Rattle.std.specs.Prelude.{Contains, find, is_some, option_map}
+use Rattle.std.specs.Prelude.{is_some, option_map}
 use Rattle.std.proofs.lemmas.Bool.{eqb-true}
 use Rattle.bp_blocks.specs.declared.block.Block.{Block}
 use Rattle.bpsec_asb.specs.declared.operation.Service.{Service}
 use Rattle.bpsec_asb.specs.declared.operation.Service.TheVariants.{Bib, Bcb}
 use Rattle.bpsec_asb.specs.declared.operation.OpId.{OpId}
 use Rattle.bpsec_asb.specs.Order.{op_cmp}
-use Rattle.bpsec_asb.specs.Known.{held_by}
 use Rattle.bpsec_asb.proofs.Members.{Among, contains, among-map, from-map, among-filter, from-filter}
 use Rattle.bpsec_asb.proofs.Ordered.{op_cmp_total, same_sorted}
 use Rattle.bpsec_node.specs.Situation.{Situation, is_among}
 use Rattle.bpsec_node.specs.Agree.{with_keys, Agree}
 use Rattle.bpsec_node.specs.Site.{Site, block_at, site, kind_at, rule_over, role_over, judge_over, open_over}
-use Rattle.bpsec_node.specs.Plain.{covers, cover, is_acceptor, is_right, opens, is_opened_by, is_opened, plain_by, plain_body, plain_block, plain}
-use Rattle.bpsec_node.specs.AllOperations.{revealed, all_operations}
+use Rattle.bpsec_node.specs.Plain.{cover, is_acceptor, is_right, opens, is_opened_by, is_opened, plain_by, plain_body, plain_block, plain}
+use Rattle.bpsec_node.specs.AllOperations.{revealed}
 use Rattle.bpsec_node.specs.Verdict.{is_bib, site_by, site_of, rule, role, judgement, is_blocked, table, verdict_with, step_verdict}
 use Rattle.bpsec_node.specs.Order.{is_done_or_none, is_free, is_ready, ready, shown_block}
 use Rattle.bpsec_node.proofs.Members.{both, found, from_is_among, held_parts, from_all, all_known, all_revealed, ready_sorted, from_ready, among_ready}

@@ -1,5 +1,5 @@
 -- What is the same in two sessions in which operations were handed the same keys.
-use Rattle.std.proofs.Common.{◌≡◌, ◌↔◌, ℕ, List, [], Option, refl, sym, ◌∙◌, ap, subst}
+use Rattle.std.proofs.Common.{◌≡◌, ◌↔◌, ℕ, List, [], Option, sym, ◌∙◌, ap, subst}
 use Rattle.std.specs.Prelude.{Contains}
 use Rattle.bp_bundle.specs.Shape.{Contents}
 use Rattle.bpsec_asb.specs.declared.operation.OpId.{OpId}

@@ -1,45 +1,25 @@
 -- What a session keeps at its beginning.
-use Rattle.std.proofs.Common.{◌≡◌, ◌≢◌, ℕ, ◌%◌, ◌<◌, ◌≤◌, ◌↔◌, inl, inr, ◌⊎◌, Bool, true, false, ◌&&◌, ◌||◌, not, cond, eqb, List, [], ◌∷◌, ◌++◌, map, Option, Some, None, Result, Ok, Err, refl, sym, ◌∙◌, ap, subst}
-use Rattle.std.specs.Prelude.{Contains, filter, find, is_some, option_map}
-use Rattle.std.specs.List.{list_any, flat_map}
-use Rattle.std.specs.Option.{option_or}
+use Rattle.std.proofs.Common.{◌≡◌, ℕ, ◌%◌, ◌≤◌, ◌↔◌, Bool, true, false, cond, eqb, List, [], ◌∷◌, ◌++◌, map, Option, Some, None, refl, sym, ◌∙◌, ap, subst}
+use Rattle.std.specs.Prelude.{filter}
 use Rattle.std.proofs.lemmas.Bool.{eqb-true, eq-eqb, ne_eqb}
-use Rattle.std.proofs.lemmas.List.Folds.{find-append, list_any-append}
 use Rattle.cbor_profile.specs.declared.fault.Fault.{Fault}
 use Rattle.bp_blocks.specs.declared.block.Block.{Block}
 use Rattle.bp_bundle.specs.Shape.{Contents}
-use Rattle.bp_bundle.specs.Spelling.{IsBundle}
-use Rattle.bpsec_asb.specs.declared.asb.Asb.{Asb}
-use Rattle.bpsec_asb.specs.declared.operation.Service.{Service}
-use Rattle.bpsec_asb.specs.declared.operation.Service.TheVariants.{Bib, Bcb}
+use Rattle.bpsec_asb.specs.declared.operation.Service.TheVariants.{Bcb}
 use Rattle.bpsec_asb.specs.declared.operation.OpId.{OpId}
-use Rattle.bpsec_asb.specs.Operations.{NumbersAreDistinct}
-use Rattle.bpsec_asb.specs.Known.{operation, held_by, ciphers, targets_of}
+use Rattle.bpsec_asb.specs.Known.{operation, ciphers, targets_of}
 use Rattle.bpsec_asb.specs.Reading.{read_body}
 use Rattle.bpsec_asb.proofs.Members.{Among, among, contains, among-map, from-map, among-filter, from-filter}
 use Rattle.bpsec_node.specs.declared.held.Held.{Held}
-use Rattle.bpsec_node.specs.declared.event.Verdict.{Verdict}
-use Rattle.bpsec_node.specs.Situation.{Situation, is_op, is_among}
 use Rattle.bpsec_node.specs.Site.{block_at}
-use Rattle.bpsec_node.specs.Plain.{may_be_covered, covers, cover, plain_block, plain}
-use Rattle.bpsec_node.specs.AllOperations.{is_open}
-use Rattle.bpsec_node.specs.Verdict.{is_bib, step_verdict}
-use Rattle.bpsec_node.specs.Order.{is_done_or_none, is_free, is_ready, ready, LegalFrom, Legal, shown_block, shown}
-use Rattle.bpsec_node.specs.Begin.{IsBroken, IsFirstBroken, AllReadable, IsCoveredBy, IsFirstDouble, CoveredOnce, CanBegin, IsBeginFault}
+use Rattle.bpsec_node.specs.Plain.{may_be_covered, covers}
+use Rattle.bpsec_node.specs.Begin.{IsFirstBroken, AllReadable, IsFirstDouble, CoveredOnce, CanBegin, IsBeginFault}
 use Rattle.bpsec_node.specs.declared.begin.BeginFault.{BeginFault}
 use Rattle.bpsec_node.specs.declared.begin.BeginFault.TheVariants as faults
-use Rattle.bpsec_node.specs.Session.{has, applies_to, is_operation_by, is_operation, is_shown, holds_operations, held_of, is_read, find_held, held_by_block, held_at, IsKept}
-use Rattle.bpsec_node.specs.Lists.{ready_among}
-use Rattle.bpsec_node.specs.Least.{is_cipher, is_visible_bib, read_those, ops_of, least_broken, double_of}
-use Rattle.bpsec_node.specs.Start.{first_covers, first_sealed, first_ops, IsStartFault, fault_of, begin_fault, IsFaultOf}
-use Rattle.bpsec_node.proofs.Members.{same_truth}
-use Rattle.bpsec_node.proofs.Agree.{block_at_number}
-use Rattle.bpsec_node.proofs.Ended.{cipher_service}
-use Rattle.bpsec_node.proofs.OutcomeKeys.{map_agree}
-use Rattle.bpsec_node.proofs.Leasts.{none_broken, FirstBroken, first_broken, none_double, FirstDouble, some_double}
-use Rattle.bpsec_node.proofs.Sited.{cover_may, none_if_not, same_operation, uncovered_free, uncovered_open, uncovered_plain_at, free_by_cover, shown_at, block_at_map}
-use Rattle.bpsec_node.proofs.ReadyFrom.{ready_from}
-use Rattle.bpsec_node.proofs.Uncovered.{among_targets, not_among_targets}
+use Rattle.bpsec_node.specs.Session.{held_of}
+use Rattle.bpsec_node.specs.Least.{is_cipher, read_those, ops_of, least_broken, double_of}
+use Rattle.bpsec_node.specs.Start.{first_covers, IsStartFault, fault_of, begin_fault, IsFaultOf}
+use Rattle.bpsec_node.proofs.Leasts.{none_broken, first_broken, none_double, some_double}
 
 -- ---- security blocks that are read
 

@@ -1,5 +1,5 @@
 -- The first that stands in the way of a session, over lists and by relations.
-use Rattle.std.proofs.Common.{◌≡◌, ◌≢◌, ℕ, ◌%◌, ◌<◌, ◌≤◌, Bool, true, false, cond, eqb, List, Option, Some, None, Result, Ok, Err, refl, sym, ◌∙◌, ap, subst, arith}
+use Rattle.std.proofs.Common.{◌≡◌, ◌≢◌, ℕ, ◌%◌, ◌≤◌, Bool, true, false, cond, eqb, Option, Some, None, Result, Err, refl, sym, ◌∙◌, ap, subst, arith}
 use Rattle.std.proofs.lemmas.Bool.{eqb-true, eq-eqb}
 use Rattle.cbor_profile.specs.declared.fault.Fault.{Fault}
 use Rattle.bp_blocks.specs.declared.block.Block.{Block}
@@ -9,7 +9,7 @@ use Rattle.bpsec_asb.specs.Operations.{NumbersAreDistinct}
 use Rattle.bpsec_asb.specs.Reading.{read_body}
 use Rattle.bpsec_asb.proofs.Members.{among}
 use Rattle.bpsec_node.specs.Site.{block_at}
-use Rattle.bpsec_node.specs.Begin.{IsBroken, IsFirstBroken, AllReadable, IsCoveredBy, IsFirstDouble, CanBegin, IsBeginFault}
+use Rattle.bpsec_node.specs.Begin.{IsBroken, IsFirstDouble, CanBegin, IsBeginFault}
 use Rattle.bpsec_node.specs.declared.begin.BeginFault.{BeginFault}
 use Rattle.bpsec_node.specs.declared.begin.BeginFault.TheVariants as faults
 use Rattle.bpsec_node.specs.Least.{is_cipher, read_those, least_broken, double_of}

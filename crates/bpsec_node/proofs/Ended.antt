@@ -1,13 +1,12 @@
 -- Where nothing is ready, everything is done.
-use Rattle.std.proofs.Common.{◌≡◌, ℕ, inl, inr, ◌⊎◌, Bool, true, false, List, [], ◌∷◌, Option, Some, None, refl, sym, ◌∙◌, ap, subst}
+use Rattle.std.proofs.Common.{◌≡◌, ℕ, inl, inr, true, List, [], Option, Some, None, refl}
 use Rattle.bp_blocks.specs.declared.block.Block.{Block}
-use Rattle.bpsec_asb.specs.declared.operation.Service.{Service}
-use Rattle.bpsec_asb.specs.declared.operation.Service.TheVariants.{Bib, Bcb}
+use Rattle.bpsec_asb.specs.declared.operation.Service.TheVariants.{Bcb}
 use Rattle.bpsec_asb.specs.declared.operation.OpId.{OpId}
 use Rattle.bpsec_asb.specs.Known.{held_by, ciphers}
 use Rattle.bpsec_asb.proofs.Held.{held_service}
 use Rattle.bpsec_asb.proofs.Members.{Among, from-flat_map}
-use Rattle.bpsec_node.specs.Situation.{Situation, is_among}
+use Rattle.bpsec_node.specs.Situation.{Situation}
 use Rattle.bpsec_node.specs.Plain.{cover}
 use Rattle.bpsec_node.specs.AllOperations.{all_operations}
 use Rattle.bpsec_node.specs.Order.{is_done_or_none, is_free, ready}

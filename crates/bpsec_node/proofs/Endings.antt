@@ -1,13 +1,11 @@
 -- What a session keeps where nothing is ready.
-use Rattle.std.proofs.Common.{◌≡◌, ℕ, inl, inr, Bool, true, false, ◌&&◌, ◌||◌, not, cond, List, [], ◌∷◌, map, Option, Some, None, refl, sym, ◌∙◌, ap, subst}
-use Rattle.std.specs.Prelude.{is_some}
+use Rattle.std.proofs.Common.{◌≡◌, ℕ, Bool, true, false, ◌&&◌, not, cond, List, [], Option, Some, None, refl, sym, ◌∙◌, ap, subst}
 use Rattle.bp_primary.specs.declared.primary.Primary.{Primary}
 use Rattle.bp_blocks.specs.declared.block.Block.{Block}
 use Rattle.bp_bundle.specs.Shape.{Contents}
 use Rattle.bp_bundle.specs.Spelling.{IsBundle}
 use Rattle.bpsec_asb.specs.Operations.{BodiesAreBytes}
 use Rattle.bpsec_asb.specs.declared.operation.OpId.{OpId}
-use Rattle.bpsec_asb.proofs.Members.{Among}
 use Rattle.bpsec_node.specs.declared.event.Event.{Event}
 use Rattle.bpsec_node.specs.declared.event.Verdict.{Verdict}
 use Rattle.bpsec_node.specs.declared.held.Held.{Held}
@@ -15,11 +13,10 @@ use Rattle.bpsec_node.specs.Situation.{Situation, is_among}
 use Rattle.bpsec_node.specs.Site.{block_at}
 use Rattle.bpsec_node.specs.Plain.{cover, plain_block, plain}
 use Rattle.bpsec_node.specs.AllOperations.{all_operations, is_open}
-use Rattle.bpsec_node.specs.Verdict.{step_verdict}
 use Rattle.bpsec_node.specs.Events.{events}
 use Rattle.bpsec_node.specs.Outcome.{is_discarded, resulting, outcome}
 use Rattle.bpsec_node.specs.Order.{is_free, ready, shown_block, shown}
-use Rattle.bpsec_node.specs.Session.{has, find_held, held_of, holds_operations, is_read, held_by_block, held_at, IsKept}
+use Rattle.bpsec_node.specs.Session.{held_of, holds_operations, held_by_block, held_at, IsKept}
 use Rattle.bpsec_node.specs.Closing.{plain_held_by, plain_held}
 use Rattle.bpsec_node.specs.Finished.{Finished, events_in, blocks_in}
 use Rattle.bpsec_node.proofs.Members.{same_truth, from_is_among, is_among_from}
@@ -29,7 +26,7 @@ use Rattle.bpsec_node.proofs.OutcomeKeys.{map_agree}
 use Rattle.bpsec_node.proofs.Finishing.{Ends, ended, events_in_are, blocks_in_are}
 use Rattle.bpsec_node.specs.Longer.{NeverLonger}
 use Rattle.bpsec_node.proofs.Results.{resulting_bundle}
-use Rattle.bpsec_node.proofs.Sited.{free_shown, free_by_cover, uncovered_free}
+use Rattle.bpsec_node.proofs.Sited.{free_by_cover, uncovered_free}
 
 module _ (s : Situation) (done : List OpId) (now : Contents) (held : List Held) (sealed stuck : List ℕ) (open_ops ready_ops : List OpId) (verdicts : List Verdict)
     (kept : IsKept s done now held sealed stuck open_ops ready_ops verdicts) (none : ready s done ≡ []) where

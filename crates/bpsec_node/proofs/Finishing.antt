@@ -1,9 +1,8 @@
 -- What a session keeps at its end gives the events and the blocks of the outcome.
-use Rattle.std.proofs.Common.{◌≡◌, ◌≢◌, ℕ, zero, suc, ◌+◌, ◌<◌, inl, inr, ◌⊎◌, Bool, true, false, ◌&&◌, ◌||◌, not, cond, eqb, List, [], ◌∷◌, ◌++◌, length, map, Option, Some, None, Result, Ok, Err, refl, sym, ◌∙◌, ap, subst, arith, rules, append_assoc, length-append}
+use Rattle.std.proofs.Common.{◌≡◌, ℕ, ◌+◌, inl, inr, Bool, true, false, ◌&&◌, ◌||◌, not, cond, eqb, List, [], ◌∷◌, ◌++◌, length, map, Option, Some, None, Result, Ok, Err, refl, sym, ◌∙◌, ap, subst, arith, rules, append_assoc, length-append}
 use Rattle.std.specs.Prelude.{filter, find, fold, is_some, option_map, unwrap_or, slice_get}
 use Rattle.std.specs.Result.{result_ok}
 use Rattle.std.specs.List.{flat_map, list_any, position_from}
-use Rattle.std.specs.List.Sorted.{IsStrictlySortedBy}
 use Rattle.std.specs.BTreeSet.{insert_key}
 use Rattle.std.specs.declared.cmp.Ordering.{Ordering}
 use Rattle.std.specs.declared.cmp.Ordering.TheVariants.{Less, Equal, Greater}
@@ -13,13 +12,11 @@ use Rattle.std.specs.Cmp.{IsTotalOrder}
 use Rattle.std.specs.Cmp.Rules.{comparing}
 use Rattle.std.proofs.lemmas.Option.{slice_get-map}
 use Rattle.std.proofs.lemmas.Iterator.Adapters.{position_from-zero}
-use Rattle.std.proofs.lemmas.Bool.{eqb-true, eq-eqb, ne_eqb}
 use Rattle.std.proofs.lemmas.Map.Lookups.{CmpEqualImpliesEq, exact_unsigned}
 use Rattle.cbor_profile.specs.declared.fault.Fault.{Fault}
 use Rattle.bp_primary.specs.declared.primary.Primary.{Primary}
 use Rattle.bp_blocks.specs.declared.block.Block.{Block}
-use Rattle.bp_bundle.specs.Shape.{Contents}
-use Rattle.bp_bundle.specs.Spelling.{IsNumbered, IsBundle}
+use Rattle.bp_bundle.specs.Spelling.{IsBundle}
 use Rattle.bpsec_asb.specs.declared.asb.Asb.{Asb}
 use Rattle.bpsec_asb.specs.declared.operation.OpId.{OpId}
 use Rattle.bpsec_asb.specs.declared.operation.Service.{Service}
@@ -27,7 +24,7 @@ use Rattle.bpsec_asb.specs.declared.operation.Service.TheVariants.{Bib, Bcb}
 use Rattle.bpsec_asb.specs.Operations.{NumbersAreDistinct}
 use Rattle.bpsec_asb.specs.Reading.{read_body}
 use Rattle.bpsec_asb.specs.Known.{operation, targets_of, held_by, ciphers}
-use Rattle.bpsec_asb.proofs.Members.{Among, among, contains, among-left, among-right, among-append, among-map, from-map, from-filter, among-flat_map, from-flat_map, from-any, any-from, from-set, among-set}
+use Rattle.bpsec_asb.proofs.Members.{Among, among-left, among-right, among-append, among-map, from-map, from-flat_map, from-any, any-from, from-set, among-set}
 use Rattle.bpsec_asb.proofs.Ordered.{sorted_set, sorted_none, same_sorted}
 use Rattle.bpsec_policy.specs.declared.rule.Rule.{Rule}
 use Rattle.bpsec_policy.specs.declared.rule.Role.{Role}
@@ -39,14 +36,14 @@ use Rattle.bpsec_node.specs.declared.event.Event.{Event}
 use Rattle.bpsec_node.specs.declared.place.Place.{Place}
 use Rattle.bpsec_node.specs.declared.held.Held.{Held}
 use Rattle.bpsec_node.specs.Situation.{Situation, is_op, is_among}
-use Rattle.bpsec_node.specs.Site.{Site, block_at, site, kind_at, asb_in, rule_by, rule_over, role_over}
+use Rattle.bpsec_node.specs.Site.{block_at, site, kind_at, asb_in, rule_by, rule_over, role_over}
 use Rattle.bpsec_node.specs.Plain.{cover, is_opened, is_acceptor, plain_block, plain}
 use Rattle.bpsec_node.specs.AllOperations.{all_operations, is_open}
-use Rattle.bpsec_node.specs.Verdict.{is_bib, is_forbidden, has_no_role, site_by, site_of, rule, role, judgement, verdict_of, verdict_at, table, in_conflict, is_blocked, verdict_with, step_verdict, verdict}
+use Rattle.bpsec_node.specs.Verdict.{is_bib, is_forbidden, has_no_role, site_by, site_of, rule, role, judgement, verdict_at, table, in_conflict, is_blocked, verdict_with, step_verdict, verdict}
 use Rattle.bpsec_node.specs.Session.{has, applies_to, is_operation_by, is_operation, holds_operations, held_of, find_held}
-use Rattle.bpsec_node.specs.Closing.{plain_held_by, plain_held, IsAllDone}
+use Rattle.bpsec_node.specs.Closing.{plain_held_by, plain_held}
 use Rattle.bpsec_node.specs.Events.{is_floored, action_by, applies, requirement, has_operation, is_missing, place_cmp, place_of, op_at, fault_by, fault_in, broken_places, missing_at, missing_places, places, operation_event, reason_by, fault_at, broken_event, name_by, missing_by, missing_event, event_at, events}
-use Rattle.bpsec_node.specs.Outcome.{is_remove, lacks_target, is_removed, is_passed, is_dropped, without, with_targets, remaining_asb, remaining, resulting}
+use Rattle.bpsec_node.specs.Outcome.{is_remove, lacks_target, is_removed, is_passed, is_dropped, with_targets, remaining_asb, remaining, resulting}
 use Rattle.bpsec_node.specs.declared.event.Verdict.TheVariants.{NotOurs, Missing}
 use Rattle.bpsec_policy.specs.declared.rule.Action.{Action}
 use Rattle.std.specs.Prelude.{codes}

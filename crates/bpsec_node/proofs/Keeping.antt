@@ -1,35 +1,28 @@
 -- What a step leaves as it is in what a session keeps.
-use Rattle.std.proofs.Common.{◌≡◌, ◌≢◌, ℕ, inl, inr, ◌⊎◌, Bool, true, false, ◌&&◌, ◌||◌, not, cond, eqb, List, [], ◌∷◌, ◌++◌, map, Option, Some, None, refl, sym, ◌∙◌, ap, subst, append_assoc}
-use Rattle.std.specs.Prelude.{Contains, filter, find, is_some, option_map}
-use Rattle.std.specs.List.{list_any}
+use Rattle.std.proofs.Common.{◌≡◌, ℕ, inl, inr, Bool, true, false, ◌&&◌, ◌||◌, not, cond, List, [], ◌∷◌, ◌++◌, map, Option, Some, None, refl, sym, ◌∙◌, ap, subst, append_assoc}
+use Rattle.std.specs.Prelude.{Contains, is_some}
 use Rattle.std.proofs.lemmas.List.{append-nil}
 use Rattle.std.proofs.lemmas.List.Folds.{list_any-append}
-use Rattle.std.proofs.lemmas.List.Elements.{filter_agree}
 use Rattle.bp_blocks.specs.declared.block.Block.{Block}
 use Rattle.bp_bundle.specs.Shape.{Contents}
 use Rattle.bpsec_asb.specs.declared.operation.Service.{Service}
 use Rattle.bpsec_asb.specs.declared.operation.Service.TheVariants.{Bib, Bcb}
 use Rattle.bpsec_asb.specs.declared.operation.OpId.{OpId}
-use Rattle.bpsec_asb.specs.Known.{ciphers}
-use Rattle.bpsec_asb.proofs.Members.{Among, among, contains}
-use Rattle.bpsec_node.specs.declared.event.Verdict.{Verdict}
-use Rattle.bpsec_node.specs.declared.held.Held.{Held}
+use Rattle.bpsec_asb.proofs.Members.{Among}
 use Rattle.bpsec_node.specs.Situation.{Situation, is_op, is_among}
 use Rattle.bpsec_node.specs.Agree.{with_keys, Agree}
 use Rattle.bpsec_node.specs.Site.{block_at}
-use Rattle.bpsec_node.specs.Plain.{cover, is_opened, plain_block, plain}
-use Rattle.bpsec_node.specs.AllOperations.{all_operations, is_open}
+use Rattle.bpsec_node.specs.Plain.{cover, plain}
+use Rattle.bpsec_node.specs.AllOperations.{is_open}
 use Rattle.bpsec_node.specs.Verdict.{is_bib, step_verdict}
-use Rattle.bpsec_node.specs.Order.{is_done_or_none, is_free, is_ready, ready, LegalFrom, Legal, shown_block, shown}
+use Rattle.bpsec_node.specs.Order.{is_free, ready, LegalFrom, Legal, shown_block, shown}
 use Rattle.bpsec_asb.specs.Reading.{read_body}
-use Rattle.bpsec_node.specs.Session.{holds_operations as holds, has, applies_to, is_operation_by, is_operation, is_shown, is_covering, is_read, find_held, held_by_block, held_at, IsKept}
-use Rattle.bpsec_node.specs.Lists.{without_op}
-use Rattle.bpsec_node.proofs.Members.{both, both_true, same_truth, is_op_same, is_op_itself, from_is_among, is_among_from}
-use Rattle.bpsec_node.proofs.Agree.{free_agrees, opened_same, plain_at_same, plain_block_same, shown_same, ready_same}
-use Rattle.bpsec_node.proofs.Legal.{legal_same, done_verdict_same}
+use Rattle.bpsec_node.specs.Session.{holds_operations as holds, applies_to, is_operation_by, is_operation, is_shown, is_read, held_by_block, held_at}
+use Rattle.bpsec_node.proofs.Members.{same_truth, is_op_same, is_op_itself}
+use Rattle.bpsec_node.proofs.Agree.{free_agrees, opened_same, plain_at_same, shown_same}
+use Rattle.bpsec_node.proofs.Legal.{done_verdict_same}
 use Rattle.bpsec_node.proofs.OutcomeKeys.{map_agree}
-use Rattle.bpsec_node.proofs.Sited.{cover_itself, cover_among, free_by_cover, uncovered_free}
-use Rattle.bpsec_node.proofs.ReadyOps.{IsReady, ready_undone, operation_cipher}
+use Rattle.bpsec_node.proofs.Sited.{free_by_cover, uncovered_free}
 
 -- ---- one operation more is done
 

@@ -1,23 +1,22 @@
 -- The lists of this crate in the words of the crate below.
-use Rattle.std.proofs.Common.{◌≡◌, ◌≢◌, ℕ, inl, inr, ◌⊎◌, Bool, true, false, cond, eqb, not, List, [], ◌∷◌, Option, Some, None, refl, sym, ◌∙◌, ap, subst}
+use Rattle.std.proofs.Common.{◌≡◌, ◌≢◌, ℕ, inl, inr, ◌⊎◌, true, false, eqb, not, List, Option, Some, None, refl, sym, ◌∙◌, ap, subst}
 use Rattle.std.specs.Prelude.{Contains, filter}
-use Rattle.std.specs.List.{list_any}
-use Rattle.std.proofs.lemmas.Bool.{eqb-true, eqb-false, eq-eqb, ne_eqb}
+use Rattle.std.proofs.lemmas.Bool.{eqb-true, eq-eqb, ne_eqb}
 use Rattle.std.proofs.lemmas.List.Elements.{All-contains}
 use Rattle.bp_eid.proofs.Steps.{IsBytes}
 use Rattle.bp_blocks.specs.declared.block.Block.{Block}
 use Rattle.bpsec_asb.specs.declared.operation.Service.{Service}
-use Rattle.bpsec_asb.specs.declared.operation.Service.TheVariants.{Bib, Bcb}
+use Rattle.bpsec_asb.specs.declared.operation.Service.TheVariants.{Bib}
 use Rattle.bpsec_asb.specs.declared.operation.OpId.{OpId}
-use Rattle.bpsec_asb.specs.Operations.{NumbersAreDistinct, BodiesAreBytes, IsHeldBy, IsOperationOf, Covers, IsCovered, IsVisible, IsKnown}
-use Rattle.bpsec_asb.specs.Known.{held_by, ListsHeld, ciphers, known}
-use Rattle.bpsec_asb.proofs.Members.{Among, among, contains, among-filter, from-filter, from-any, any-from}
+use Rattle.bpsec_asb.specs.Operations.{NumbersAreDistinct, BodiesAreBytes, IsHeldBy, IsOperationOf, Covers, IsVisible, IsKnown}
+use Rattle.bpsec_asb.specs.Known.{held_by, ciphers, known}
+use Rattle.bpsec_asb.proofs.Members.{Among, among, contains, among-filter, from-filter}
 use Rattle.bpsec_asb.proofs.Held.{held_means, held_found}
 use Rattle.bpsec_asb.proofs.KnownSet.{cipher_means, cipher_found}
 use Rattle.bpsec_asb.proofs.KnownList.{known_means, known_found, all_held}
 use Rattle.bpsec_node.specs.Situation.{Situation}
 use Rattle.bpsec_node.specs.Site.{block_at}
-use Rattle.bpsec_node.specs.Plain.{may_be_covered, covers, cover, is_opened, plain}
+use Rattle.bpsec_node.specs.Plain.{may_be_covered, covers, cover}
 use Rattle.bpsec_node.specs.AllOperations.{revealed, all_operations}
 use Rattle.bpsec_node.specs.Begin.{CoveredOnce}
 use Rattle.bpsec_node.proofs.Members.{found, from_all, all_known, all_revealed}

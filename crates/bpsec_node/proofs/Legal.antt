@@ -1,5 +1,5 @@
 -- Legal orders: what is done one after the other, and where it ends.
-use Rattle.std.proofs.Common.{◌≡◌, ◌≢◌, arith, ℕ, zero, suc, inl, inr, ◌⊎◌, Bool, true, false, ◌&&◌, ◌||◌, not, cond, eqb, List, [], ◌∷◌, ◌++◌, map, Option, Some, None, refl, sym, ◌∙◌, ap, subst, append_assoc, append-nil}
+use Rattle.std.proofs.Common.{◌≡◌, ◌≢◌, arith, ℕ, inl, inr, Bool, true, false, ◌&&◌, ◌||◌, not, List, [], ◌∷◌, ◌++◌, map, Option, Some, None, refl, sym, ◌∙◌, ap, subst, append_assoc}
 use Rattle.std.specs.Prelude.{Contains, AllPairs}
 use Rattle.std.proofs.lemmas.List.Kept.{AllPairs-cons}
 use Rattle.bpsec_asb.proofs.Held.{all_members}
@@ -7,15 +7,15 @@ use Rattle.bpsec_asb.specs.declared.operation.Service.{Service}
 use Rattle.bpsec_asb.specs.declared.operation.Service.TheVariants.{Bib, Bcb}
 use Rattle.bpsec_asb.specs.declared.operation.OpId.{OpId}
 use Rattle.bp_blocks.specs.declared.block.Block.{Block}
-use Rattle.bpsec_asb.proofs.Members.{Among, among, contains, among-left, among-right, among-append}
+use Rattle.bpsec_asb.proofs.Members.{Among, among, contains, among-left, among-right}
 use Rattle.bpsec_node.specs.Situation.{Situation, is_among}
 use Rattle.bpsec_node.specs.Agree.{with_keys, Agree}
 use Rattle.bpsec_node.specs.Plain.{cover}
 use Rattle.bpsec_node.specs.AllOperations.{all_operations}
 use Rattle.bpsec_node.specs.Verdict.{is_bib, step_verdict}
 use Rattle.bpsec_node.specs.Order.{is_done_or_none, is_free, is_ready, ready, shown_block, shown, LegalFrom, Legal}
-use Rattle.bpsec_node.proofs.Members.{both, both_true, not_true, from_is_among, is_among_from, among_or_not, all_known, known_cipher, cover_found, from_ready, among_ready}
-use Rattle.bpsec_node.proofs.Agree.{AgreeAt, Settled, free_agrees, shown_same, ready_same, ready_bib, step_verdict_same}
+use Rattle.bpsec_node.proofs.Members.{both, both_true, not_true, from_is_among, is_among_from, among_or_not, from_ready, among_ready}
+use Rattle.bpsec_node.proofs.Agree.{Settled, free_agrees, shown_same, ready_same, ready_bib, step_verdict_same}
 
 -- ---- more that is done
 

@@ -1,6 +1,6 @@
 -- What stands in the lists of operations.
-use Rattle.std.proofs.Common.{◌≡◌, ℕ, inl, inr, ◌⊎◌, Bool, true, false, ◌&&◌, ◌||◌, cond, eqb, not, List, [], ◌∷◌, ◌++◌, map, Option, Some, None, refl, sym, ◌∙◌, ap, subst}
-use Rattle.std.specs.Prelude.{Contains, filter, find, is_some, option_map}
+use Rattle.std.proofs.Common.{◌≡◌, ℕ, inl, inr, ◌⊎◌, Bool, true, false, ◌&&◌, ◌||◌, cond, eqb, not, List, [], ◌∷◌, ◌++◌, map, Some, refl, sym, ◌∙◌, ap, subst}
+use Rattle.std.specs.Prelude.{filter, find}
 use Rattle.std.specs.List.{flat_map, list_any}
 use Rattle.std.specs.List.Sorted.{IsStrictlySortedBy}
 use Rattle.std.proofs.lemmas.Bool.{eqb-true, eq-eqb}
@@ -13,16 +13,15 @@ use Rattle.bpsec_asb.specs.Operations.{block_type}
 use Rattle.bpsec_asb.specs.Order.{op_cmp}
 use Rattle.bpsec_asb.specs.Known.{targets_of, operation, held_by, ciphers, untargeted, known}
 use Rattle.bpsec_asb.specs.Reading.{read_body}
-use Rattle.bpsec_asb.proofs.Members.{Among, among, contains, among-left, among-right, among-append, among-flat_map, from-flat_map, among-filter, from-filter, from-map, among-map, from-any, any-from, from-set, among-set}
+use Rattle.bpsec_asb.proofs.Members.{Among, among-left, among-right, among-append, among-flat_map, from-flat_map, among-filter, from-filter, from-map, from-any, any-from, from-set, among-set}
 use Rattle.bpsec_asb.proofs.Ordered.{op_cmp_exact, op_cmp_total, sorted_set, sorted_none}
 use Rattle.bpsec_asb.proofs.KnownSet.{listed}
 use Rattle.bpsec_policy.specs.Rules.{same_service}
 use Rattle.bpsec_node.specs.Situation.{Situation, is_op, is_among}
-use Rattle.bpsec_node.specs.Plain.{covers, cover, is_opened, plain, may_be_covered}
+use Rattle.bpsec_node.specs.Plain.{covers, cover, plain, may_be_covered}
 use Rattle.bpsec_node.specs.Site.{block_at}
 use Rattle.bpsec_node.specs.AllOperations.{revealed, all_operations}
-use Rattle.bpsec_node.specs.Verdict.{is_bib}
-use Rattle.bpsec_node.specs.Order.{is_free, is_ready, ready}
+use Rattle.bpsec_node.specs.Order.{is_ready, ready}
 
 -- ---- truth values
 

@@ -1,5 +1,5 @@
 -- A scope that is too narrow.
-use Rattle.std.proofs.Common.{◌≡◌, ℕ, Bool, true, false, List, Option, Some, None, refl, ap, ◌∙◌}
+use Rattle.std.proofs.Common.{◌≡◌, ℕ, Bool, true, false, List, Option, Some, refl, ap, ◌∙◌}
 use Rattle.bpsec_asb.specs.declared.asb.Asb.{Asb}
 use Rattle.bpsec_asb.specs.declared.operation.OpId.{OpId}
 use Rattle.bpsec_context.specs.declared.judgement.Judgement.{Judgement}

@@ -1,37 +1,33 @@
 -- A step that covers a block: what it opens and shows.
-use Rattle.std.proofs.Common.{◌≡◌, ◌≢◌, ℕ, inl, inr, ◌⊎◌, Bool, true, false, ◌&&◌, ◌||◌, not, cond, eqb, List, [], ◌∷◌, ◌++◌, map, Option, Some, None, Result, Ok, Err, refl, sym, ◌∙◌, ap, subst}
-use Rattle.std.specs.Prelude.{Contains, filter, find, is_some, option_map, option_to_list}
-use Rattle.std.specs.List.{list_any}
+use Rattle.std.proofs.Common.{◌≡◌, ℕ, Bool, true, false, ◌&&◌, ◌||◌, not, cond, eqb, List, [], ◌∷◌, ◌++◌, map, Option, Some, None, refl, sym, ◌∙◌, ap, subst}
+use Rattle.std.specs.Prelude.{Contains, is_some, option_map, option_to_list}
 use Rattle.std.specs.Option.{option_or}
-use Rattle.std.proofs.lemmas.Bool.{eqb-true, eq-eqb, ne_eqb}
-use Rattle.std.proofs.lemmas.List.{map-append}
+use Rattle.std.proofs.lemmas.Bool.{eqb-true, eq-eqb}
 use Rattle.std.proofs.lemmas.List.Folds.{find-append, list_any-append}
 use Rattle.bp_blocks.specs.declared.block.Block.{Block}
 use Rattle.bp_bundle.specs.Shape.{Contents}
-use Rattle.bp_bundle.specs.Spelling.{IsBundle}
 use Rattle.bpsec_asb.specs.declared.operation.Service.{Service}
 use Rattle.bpsec_asb.specs.declared.operation.Service.TheVariants.{Bib, Bcb}
 use Rattle.bpsec_asb.specs.declared.operation.OpId.{OpId}
-use Rattle.bpsec_asb.specs.Known.{operation, ciphers, targets_of}
+use Rattle.bpsec_asb.specs.Known.{operation}
 use Rattle.bpsec_asb.specs.Reading.{read_body}
-use Rattle.bpsec_asb.proofs.Members.{Among, among, contains}
 use Rattle.bpsec_node.specs.declared.event.Verdict.{Verdict}
 use Rattle.bpsec_node.specs.declared.held.Held.{Held}
 use Rattle.bpsec_node.specs.Situation.{Situation, is_op, is_among}
 use Rattle.bpsec_node.specs.Agree.{with_keys, Agree}
 use Rattle.bpsec_node.specs.Site.{block_at, site, open_over}
 use Rattle.bpsec_node.specs.Plain.{may_be_covered, cover, opens, is_opened_by, is_opened, plain_by, plain_body, plain_block, plain}
-use Rattle.bpsec_node.specs.AllOperations.{all_operations, is_open}
-use Rattle.bpsec_node.specs.Verdict.{is_bib, step_verdict}
-use Rattle.bpsec_node.specs.Order.{is_free, is_ready, ready, shown_block, shown}
-use Rattle.bpsec_node.specs.Session.{has, applies_to, is_operation_by, is_operation, is_shown, is_covering, holds_operations, is_read, find_held, held_of, held_by_block, held_at, IsKept}
-use Rattle.bpsec_node.specs.Lists.{without_op, without_number, new_ops}
+use Rattle.bpsec_node.specs.AllOperations.{is_open}
+use Rattle.bpsec_node.specs.Verdict.{is_bib}
+use Rattle.bpsec_node.specs.Order.{is_free, ready, shown_block, shown}
+use Rattle.bpsec_node.specs.Session.{has, is_covering, holds_operations, is_read, find_held, held_of, held_by_block, held_at, IsKept}
+use Rattle.bpsec_node.specs.Lists.{without_number}
 use Rattle.bpsec_node.specs.Change.{held_after, stuck_after, opened_block, opened_bundle}
-use Rattle.bpsec_node.proofs.Members.{both_true, same_truth, is_op_same, is_op_itself}
+use Rattle.bpsec_node.proofs.Members.{same_truth, is_op_same, is_op_itself}
 use Rattle.bpsec_node.proofs.Agree.{block_at_number, plain_at, plain_number, shown_same}
 use Rattle.bpsec_node.proofs.Sited.{shown_at, shown_if, free_shown, cover_among, cover_may, cover_itself, free_by_cover, uncovered_free}
-use Rattle.bpsec_node.proofs.ReadyOps.{IsReady, ready_is, ready_undone, operation_cipher}
-use Rattle.bpsec_node.proofs.Keeping.{among_more, free_stays, read_same, stuck_same, held_same}
+use Rattle.bpsec_node.proofs.ReadyOps.{IsReady, ready_is, operation_cipher}
+use Rattle.bpsec_node.proofs.Keeping.{among_more, stuck_same, held_same}
 
 or_none : (b : Bool) → (b || false) ≡ b
 or_none true = refl

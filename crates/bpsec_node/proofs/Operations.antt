@@ -1,5 +1,5 @@
 -- All operations, block by block.
-use Rattle.std.proofs.Common.{◌≡◌, ◌≢◌, ℕ, zero, suc, ◌+◌, ◌<◌, inl, inr, ◌⊎◌, Bool, true, false, ◌&&◌, ◌||◌, not, cond, eqb, List, [], ◌∷◌, map, Option, Some, None, refl, sym, ◌∙◌, ap, subst, arith}
+use Rattle.std.proofs.Common.{◌≡◌, ◌≢◌, ℕ, suc, inl, inr, ◌⊎◌, Bool, true, false, ◌||◌, not, cond, eqb, List, [], ◌∷◌, map, Option, Some, None, refl, sym, ◌∙◌, ap, subst, arith}
 use Rattle.std.specs.Prelude.{AllPairs, filter, find, is_some, option_map}
 use Rattle.std.specs.List.{list_any}
 use Rattle.std.proofs.lemmas.Bool.{eqb-true, eq-eqb, ne_eqb}
@@ -10,14 +10,14 @@ use Rattle.bpsec_asb.specs.declared.operation.OpId.{OpId}
 use Rattle.bpsec_asb.specs.Operations.{NumbersAreDistinct}
 use Rattle.bpsec_asb.specs.Known.{operation, held_by, ciphers, targets_of}
 use Rattle.bpsec_asb.specs.Reading.{read_body}
-use Rattle.bpsec_asb.proofs.Members.{Among, among, contains, among-map, from-map, among-filter, from-filter, from-any, any-from}
+use Rattle.bpsec_asb.proofs.Members.{Among, contains, among-map, from-map, among-filter, from-filter, from-any, any-from}
 use Rattle.bpsec_node.specs.Situation.{Situation, is_among}
 use Rattle.bpsec_node.specs.Site.{block_at}
-use Rattle.bpsec_node.specs.Plain.{may_be_covered, covers, cover, is_opened_by, is_opened, plain_by, plain_body, plain_block, plain}
+use Rattle.bpsec_node.specs.Plain.{may_be_covered, covers, cover, is_opened, plain_by, plain_body, plain_block, plain}
 use Rattle.bpsec_node.specs.AllOperations.{revealed, all_operations, is_open}
 use Rattle.bpsec_node.specs.Session.{has, applies_to, is_operation_by, is_operation}
-use Rattle.bpsec_node.proofs.Members.{both, both_true, either_true, same_truth, from_is_among, is_among_from, held_parts, from_known, known_cipher, known_bib, from_all, all_known, all_revealed}
-use Rattle.bpsec_node.proofs.Agree.{plain_number, plain_kind, block_at_plain, block_at_number, plain_at}
+use Rattle.bpsec_node.proofs.Members.{both, both_true, same_truth, from_is_among, is_among_from, held_parts, from_known, known_cipher, known_bib, from_all, all_known, all_revealed}
+use Rattle.bpsec_node.proofs.Agree.{plain_number, block_at_number, plain_at}
 use Rattle.bpsec_node.proofs.Ended.{cipher_service}
 
 -- ---- blocks of distinct numbers

@@ -1,15 +1,15 @@
 -- A step that covers no block.
-use Rattle.std.proofs.Common.{◌≡◌, ◌≢◌, ℕ, inl, inr, ◌⊎◌, Bool, true, false, ◌&&◌, ◌||◌, not, cond, eqb, List, [], ◌∷◌, ◌++◌, map, Option, Some, None, refl, sym, ◌∙◌, ap, subst}
-use Rattle.std.specs.Prelude.{Contains, filter, find, is_some, option_map}
+use Rattle.std.proofs.Common.{◌≡◌, ℕ, Bool, true, false, ◌&&◌, ◌||◌, not, cond, List, [], ◌∷◌, ◌++◌, map, Option, Some, None, refl, sym, ◌∙◌, ap, subst}
+use Rattle.std.specs.Prelude.{Contains, filter}
 use Rattle.std.specs.List.{list_any}
 use Rattle.std.proofs.lemmas.List.{map-append}
 use Rattle.std.proofs.lemmas.List.Elements.{filter_agree}
 use Rattle.bp_blocks.specs.declared.block.Block.{Block}
 use Rattle.bp_bundle.specs.Shape.{Contents}
 use Rattle.bpsec_asb.specs.declared.operation.Service.{Service}
-use Rattle.bpsec_asb.specs.declared.operation.Service.TheVariants.{Bib, Bcb}
+use Rattle.bpsec_asb.specs.declared.operation.Service.TheVariants.{Bcb}
 use Rattle.bpsec_asb.specs.declared.operation.OpId.{OpId}
-use Rattle.bpsec_asb.proofs.Members.{Among, among, contains}
+use Rattle.bpsec_asb.proofs.Members.{among}
 use Rattle.bpsec_node.specs.declared.event.Verdict.{Verdict}
 use Rattle.bpsec_node.specs.declared.held.Held.{Held}
 use Rattle.bpsec_node.specs.Situation.{Situation, is_op, is_among}
@@ -20,15 +20,15 @@ use Rattle.bpsec_node.specs.AllOperations.{all_operations, is_open}
 use Rattle.bpsec_node.specs.Verdict.{is_bib, step_verdict}
 use Rattle.bpsec_node.specs.Order.{is_free, is_ready, ready, shown_block, shown}
 use Rattle.bpsec_asb.specs.Reading.{read_body}
-use Rattle.bpsec_node.specs.Session.{holds_operations as holds, has, is_operation, is_shown, is_covering, is_read, find_held, held_by_block, held_at, IsKept}
+use Rattle.bpsec_node.specs.Session.{holds_operations as holds, is_operation, is_shown, is_covering, held_by_block, held_at, IsKept}
 use Rattle.bpsec_node.specs.Lists.{without_op}
 use Rattle.bpsec_node.proofs.Members.{is_op_same}
 use Rattle.bpsec_node.proofs.Agree.{ready_same}
 use Rattle.bpsec_node.proofs.Legal.{legal_same}
 use Rattle.bpsec_node.proofs.OutcomeKeys.{map_agree}
 use Rattle.bpsec_node.proofs.Sited.{cover_among, cover_found_service, free_by_cover}
-use Rattle.bpsec_node.proofs.ReadyOps.{IsReady, ready_is, ready_undone}
-use Rattle.bpsec_node.proofs.Keeping.{among_more, is_op_sym, free_stays, read_same, stuck_same, blocks_same, held_same, known_same, legal_push, verdicts_same}
+use Rattle.bpsec_node.proofs.ReadyOps.{ready_is, ready_undone}
+use Rattle.bpsec_node.proofs.Keeping.{among_more, is_op_sym, free_stays, stuck_same, blocks_same, held_same, known_same, legal_push, verdicts_same}
 
 true_not_false : (b : Bool) → b ≡ true → b ≡ false → ⊥
 true_not_false true e f = cc

@@ -1,7 +1,7 @@
 -- The outcome depends on the keys of all operations alone.
-use Rattle.std.proofs.Common.{◌≡◌, ℕ, inl, inr, ◌⊎◌, Bool, true, false, ◌&&◌, ◌||◌, not, cond, eqb, List, [], ◌∷◌, ◌++◌, map, Option, Some, None, Result, Ok, Err, refl, sym, ◌∙◌, ap, subst}
-use Rattle.std.specs.Prelude.{Contains, filter, find, is_some, option_map, fold}
-use Rattle.std.specs.List.{flat_map, list_any}
+use Rattle.std.proofs.Common.{◌≡◌, ℕ, Bool, ◌||◌, not, cond, List, [], ◌∷◌, ◌++◌, map, Option, Some, None, refl, ◌∙◌, ap}
+use Rattle.std.specs.Prelude.{filter, is_some}
+use Rattle.std.specs.List.{flat_map}
 use Rattle.bp_blocks.specs.declared.block.Block.{Block}
 use Rattle.bp_bundle.specs.Shape.{Contents}
 use Rattle.bpsec_asb.specs.declared.operation.Service.{Service}
@@ -9,12 +9,12 @@ use Rattle.bpsec_asb.specs.declared.operation.Service.TheVariants.{Bib, Bcb}
 use Rattle.bpsec_asb.specs.declared.operation.OpId.{OpId}
 use Rattle.bpsec_asb.specs.Known.{in_order, known, held_by}
 use Rattle.bpsec_asb.proofs.Members.{Among, contains}
-use Rattle.bpsec_node.specs.Situation.{Situation, is_among}
+use Rattle.bpsec_node.specs.Situation.{Situation}
 use Rattle.bpsec_node.specs.Agree.{with_keys, Agree}
 use Rattle.bpsec_node.specs.Plain.{cover, is_opened, plain_block, plain}
 use Rattle.bpsec_node.specs.AllOperations.{revealed, all_operations, is_open}
-use Rattle.bpsec_node.specs.Verdict.{in_conflict, verdict_with, verdict, rule, role, site_of}
-use Rattle.bpsec_node.proofs.Agree.{AgreeAt, Settled, opened_same, plain_block_same, rule_same, role_same, verdict_with_same}
+use Rattle.bpsec_node.specs.Verdict.{in_conflict, verdict_with, verdict}
+use Rattle.bpsec_node.proofs.Agree.{AgreeAt, Settled, opened_same, plain_block_same, verdict_with_same}
 use Rattle.bpsec_node.proofs.Ended.{cover_among_all}
 
 agree_cover : (s : Situation) (key : OpId → Option (List ℕ)) (number : ℕ) (c : Option OpId) → cover s.bundle.blocks number ≡ c → Agree s key (all_operations s) → AgreeAt s key c

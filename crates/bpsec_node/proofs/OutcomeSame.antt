@@ -1,9 +1,9 @@
 -- Events and outcome where the keys of all operations agree.
-use Rattle.std.proofs.Common.{◌≡◌, ℕ, inl, inr, ◌⊎◌, Bool, true, false, ◌&&◌, ◌||◌, not, cond, eqb, List, [], ◌∷◌, ◌++◌, map, Option, Some, None, Result, Ok, Err, refl, sym, ◌∙◌, ap, subst}
-use Rattle.std.specs.Prelude.{Contains, filter, find, is_some, option_map, fold, codes}
-use Rattle.std.specs.List.{flat_map, list_any}
+use Rattle.std.proofs.Common.{◌≡◌, ℕ, inl, inr, Bool, true, false, ◌&&◌, ◌||◌, not, cond, eqb, List, [], ◌∷◌, ◌++◌, map, Option, Some, None, Result, Ok, Err, refl, sym, ◌∙◌, ap, subst}
+use Rattle.std.specs.Prelude.{filter, is_some, fold, codes}
+use Rattle.std.specs.List.{flat_map}
 use Rattle.std.specs.BTreeSet.{insert_key}
-use Rattle.std.proofs.lemmas.Bool.{eqb-true, eq-eqb, ne_eqb}
+use Rattle.std.proofs.lemmas.Bool.{eqb-true}
 use Rattle.cbor_profile.specs.declared.fault.Fault.{Fault}
 use Rattle.bp_blocks.specs.declared.block.Block.{Block}
 use Rattle.bp_bundle.specs.Shape.{Contents}
@@ -15,9 +15,8 @@ use Rattle.bpsec_asb.specs.declared.operation.OpId.{OpId}
 use Rattle.bpsec_asb.specs.Operations.{NumbersAreDistinct}
 use Rattle.bpsec_asb.specs.Reading.{read_body}
 use Rattle.bpsec_asb.specs.Known.{operation, held_by, ciphers, targets_of}
-use Rattle.bpsec_asb.proofs.Members.{Among, contains, among-map, from-map, from-filter, among-flat_map}
+use Rattle.bpsec_asb.proofs.Members.{Among, among-map, from-map, from-filter, among-flat_map}
 use Rattle.bpsec_policy.specs.declared.rule.Rule.{Rule}
-use Rattle.bpsec_policy.specs.declared.rule.Action.{Action}
 use Rattle.bpsec_policy.specs.declared.rule.Role.{Role}
 use Rattle.bpsec_node.specs.declared.event.Event.{Event}
 use Rattle.bpsec_node.specs.declared.event.Verdict.{Verdict}
@@ -25,14 +24,14 @@ use Rattle.bpsec_node.specs.declared.place.Place.{Place}
 use Rattle.bpsec_node.specs.Situation.{Situation, is_among}
 use Rattle.bpsec_node.specs.Agree.{with_keys, Agree}
 use Rattle.bpsec_node.specs.Site.{block_at}
-use Rattle.bpsec_node.specs.Plain.{may_be_covered, covers, cover, is_opened, is_acceptor, plain_block, plain}
+use Rattle.bpsec_node.specs.Plain.{may_be_covered, covers, cover, is_acceptor, plain_block, plain}
 use Rattle.bpsec_node.specs.AllOperations.{all_operations, is_open}
 use Rattle.bpsec_node.specs.Verdict.{verdict, rule, role}
 use Rattle.bpsec_node.specs.Events.{is_floored, action_by, requirement, has_operation, is_missing, place_cmp, place_of, op_at, fault_by, fault_in, broken_places, missing_at, missing_places, places, operation_event, reason_by, fault_at, broken_event, missing_event, event_at, events}
 use Rattle.bpsec_node.specs.Outcome.{is_remove, lacks_target, is_removed, is_discarded, is_passed, is_dropped, results_without, without, with_targets, remaining_asb, remaining_kind, remaining, resulting, outcome}
 use Rattle.bpsec_node.specs.Session.{has, applies_to, is_operation}
 use Rattle.bpsec_node.proofs.Members.{both, both_true, from_is_among, all_known, known_cipher}
-use Rattle.bpsec_node.proofs.Agree.{plain_number, plain_kind, block_at_number, rule_same, role_same}
+use Rattle.bpsec_node.proofs.Agree.{plain_number, plain_kind, rule_same, role_same}
 use Rattle.bpsec_node.proofs.OutcomeKeys.{all_settled, map_agree, filter_agrees, plain_same, open_same, all_same, all_verdict_same}
 use Rattle.bpsec_node.proofs.Operations.{at_itself, none_finds, plain_at_itself, plain_uncovered, has_from, among_if_operation}
 

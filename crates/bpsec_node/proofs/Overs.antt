@@ -1,12 +1,10 @@
 -- A ready operation over the blocks that a session shows.
-use Rattle.std.proofs.Common.{◌≡◌, ℕ, ◌≤◌, ◌^◌, Bool, true, false, ◌&&◌, List, Option, Some, None, Result, Ok, Err, refl, sym, ◌∙◌, ap, subst, arith}
+use Rattle.std.proofs.Common.{◌≡◌, ℕ, ◌≤◌, ◌^◌, true, ◌&&◌, List, Option, Some, Result, Ok, sym, ◌∙◌, ap, arith}
 use Rattle.std.specs.Prelude.{Contains, length, is_some, is_ok, option_map}
 use Rattle.cbor_profile.specs.declared.TheConstants.{BUNDLE_LIMIT}
 use Rattle.cbor_profile.specs.declared.fault.Fault.{Fault}
-use Rattle.bp_primary.specs.declared.primary.Primary.{Primary}
 use Rattle.bp_blocks.specs.declared.block.Block.{Block}
 use Rattle.bp_bundle.specs.Shape.{Contents}
-use Rattle.bp_bundle.specs.Spelling.{IsBundle}
 use Rattle.bpsec_asb.specs.declared.asb.Asb.{Asb}
 use Rattle.bpsec_asb.specs.declared.operation.OpId.{OpId}
 use Rattle.bpsec_asb.specs.Reading.{read_body}

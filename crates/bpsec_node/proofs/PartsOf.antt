@@ -1,7 +1,6 @@
 -- The parts of a site are those of its bundle.
 use Rattle.std.proofs.Common.{◌≡◌, ◌≢◌, ℕ, ◌^◌, ◌<◌, Bool, true, false, not, cond, eqb, List, length, Option, Some, None, refl, sym, ◌∙◌, ap, subst, arith}
 use Rattle.std.specs.Prelude.{Contains, is_some, option_map}
-use Rattle.std.specs.Option.{ForSome}
 use Rattle.std.proofs.lemmas.Bool.{eq-eqb, ne_eqb}
 use Rattle.std.proofs.lemmas.List.Elements.{All-contains}
 use Rattle.bp_blocks.specs.declared.block.Block.{Block}
@@ -11,10 +10,10 @@ use Rattle.bp_bundle.specs.Spelling.{IsNumbered, IsBundle}
 use Rattle.bpsec_asb.specs.declared.operation.OpId.{OpId}
 use Rattle.bpsec_asb.specs.declared.operation.Service.{Service}
 use Rattle.bpsec_asb.specs.declared.operation.Service.TheVariants.{Bib, Bcb}
-use Rattle.bpsec_asb.proofs.Members.{Among, among, contains}
+use Rattle.bpsec_asb.proofs.Members.{among, contains}
 use Rattle.bpsec_scope.specs.declared.header.Header.{Header}
-use Rattle.bpsec_scope.specs.Target.{Target, PrimaryBlock, Body, Sealed, is_primary, body_of}
-use Rattle.bpsec_scope.specs.Parts.{Parts, IsHeader, IsParts}
+use Rattle.bpsec_scope.specs.Target.{PrimaryBlock, Body, is_primary, body_of}
+use Rattle.bpsec_scope.specs.Parts.{IsHeader, IsParts}
 use Rattle.bpsec_node.specs.PartsOf.{IsTargetOf, IsPartsOf}
 use Rattle.bpsec_node.specs.Site.{block_at, site, header_of, security_header, integrity_target, target_by, target_header, parts}
 use Rattle.bpsec_node.proofs.Agree.{block_at_number}

@@ -1,16 +1,14 @@
 -- The block with a number is given an opened body.
-use Rattle.std.proofs.Common.{◌≡◌, ◌≢◌, ℕ, zero, suc, ◌+◌, ◌<◌, ◌≤◌, ◌↔◌, inl, inr, Bool, true, false, cond, eqb, ltb, not, List, [], ◌∷◌, map, length, get_or, Option, Some, None, Result, Ok, Err, refl, sym, ◌∙◌, ap, arith}
-use Rattle.std.specs.Prelude.{AllPairs, IsErr, OnOk, position}
+use Rattle.std.proofs.Common.{◌≡◌, ℕ, zero, suc, ◌+◌, ◌<◌, ◌≤◌, ◌↔◌, Bool, true, false, cond, eqb, ltb, not, List, [], ◌∷◌, map, length, get_or, Option, Some, None, Result, Ok, Err, refl, sym, ◌∙◌, ap, arith}
+use Rattle.std.specs.Prelude.{IsErr, OnOk, position}
 use Rattle.std.specs.List.{prefix_len}
 use borrow.Author.Tests.{ltb-false, ltb-true}
-use Rattle.std.proofs.lemmas.Bool.{eqb-true, eq-eqb, ne_eqb}
+use Rattle.std.proofs.lemmas.Bool.{eq-eqb, ne_eqb}
 use Rattle.cbor_profile.specs.declared.TheConstants.{BUNDLE_LIMIT}
 use Rattle.bp_blocks.specs.declared.block.Block.{Block}
 use Rattle.bp_bundle.specs.Shape.{Contents}
-use Rattle.bp_bundle.specs.Spelling.{spelling}
 use Rattle.bp_bundle.specs.Edits.{body_at, with_body}
 use Rattle.bpsec_asb.specs.Operations.{NumbersAreDistinct}
-use Rattle.bpsec_asb.proofs.Members.{Among, among, contains}
 use Rattle.bpsec_node.specs.Change.{opened_block, opened_bundle}
 
 opened_none : (number : ℕ) (blocks : List Block) → map (opened_block number None) blocks ≡ blocks

@@ -1,7 +1,6 @@
 -- The ready operations, from those that are known and the blocks that are sealed.
-use Rattle.std.proofs.Common.{◌≡◌, ℕ, inl, inr, ◌⊎◌, Bool, true, false, ◌&&◌, ◌||◌, not, List, [], ◌∷◌, refl, sym, ◌∙◌, ap}
+use Rattle.std.proofs.Common.{◌≡◌, ℕ, inl, inr, ◌⊎◌, Bool, true, false, ◌&&◌, ◌||◌, not, List, [], refl, sym, ◌∙◌, ap}
 use Rattle.std.specs.Prelude.{filter}
-use Rattle.std.specs.List.Sorted.{IsStrictlySortedBy}
 use Rattle.bpsec_asb.specs.declared.operation.OpId.{OpId}
 use Rattle.bpsec_asb.specs.Operations.{NumbersAreDistinct}
 use Rattle.bpsec_asb.specs.Order.{op_cmp}

@@ -1,11 +1,9 @@
 -- A ready operation's security block was read, and its site is as its verdict asks.
-use Rattle.std.proofs.Common.{◌≡◌, ◌≢◌, ℕ, inl, inr, ◌⊎◌, Bool, true, false, ◌&&◌, ◌||◌, not, cond, eqb, List, [], ◌∷◌, map, Option, Some, None, Result, Ok, Err, refl, sym, ◌∙◌, ap, subst}
-use Rattle.std.specs.Prelude.{Contains, find, is_some, is_ok, option_map}
-use Rattle.std.specs.List.{list_any}
-use Rattle.std.proofs.lemmas.Bool.{eqb-true, eq-eqb}
+use Rattle.std.proofs.Common.{◌≡◌, ℕ, Bool, true, false, ◌&&◌, ◌||◌, not, cond, eqb, List, Option, Some, None, Result, Ok, Err, refl, sym, ◌∙◌, ap}
+use Rattle.std.specs.Prelude.{Contains}
+use Rattle.std.proofs.lemmas.Bool.{eq-eqb}
 use Rattle.cbor_profile.specs.declared.fault.Fault.{Fault}
 use Rattle.bp_blocks.specs.declared.block.Block.{Block}
-use Rattle.bp_bundle.specs.Spelling.{IsBundle}
 use Rattle.bpsec_asb.specs.declared.asb.Asb.{Asb}
 use Rattle.bpsec_asb.specs.declared.operation.Service.{Service}
 use Rattle.bpsec_asb.specs.declared.operation.Service.TheVariants.{Bib, Bcb}
@@ -13,21 +11,18 @@ use Rattle.bpsec_asb.specs.declared.operation.OpId.{OpId}
 use Rattle.bpsec_asb.specs.Operations.{NumbersAreDistinct}
 use Rattle.bpsec_asb.specs.Known.{targets_of, ciphers}
 use Rattle.bpsec_asb.specs.Reading.{read_body}
-use Rattle.bpsec_asb.proofs.Members.{Among, among, contains}
-use Rattle.bpsec_node.specs.declared.event.Verdict.{Verdict}
-use Rattle.bpsec_node.specs.declared.held.Held.{Held}
-use Rattle.bpsec_node.specs.Situation.{Situation, is_op, is_among}
+use Rattle.bpsec_asb.proofs.Members.{Among, among}
+use Rattle.bpsec_node.specs.Situation.{Situation, is_among}
 use Rattle.bpsec_node.specs.Agree.{with_keys, Agree}
-use Rattle.bpsec_node.specs.Site.{Site, block_at, site, rule_over}
-use Rattle.bpsec_node.specs.Plain.{cover, plain}
-use Rattle.bpsec_node.specs.AllOperations.{all_operations, is_open}
-use Rattle.bpsec_node.specs.Verdict.{is_bib, rule, site_by, site_of}
+use Rattle.bpsec_node.specs.Site.{block_at, site}
+use Rattle.bpsec_node.specs.Plain.{plain}
+use Rattle.bpsec_node.specs.AllOperations.{is_open}
+use Rattle.bpsec_node.specs.Verdict.{is_bib, site_by, site_of}
 use Rattle.bpsec_node.specs.Order.{is_free, is_ready, ready, shown}
 use Rattle.bpsec_node.specs.Begin.{CoveredOnce}
 use Rattle.bpsec_node.specs.Session.{has, applies_to, is_operation_by, is_operation, holds_operations, held_of, is_read, held_by_block, held_at}
-use Rattle.bpsec_node.specs.Change.{is_readable}
 use Rattle.bpsec_node.proofs.Members.{both, both_true, from_is_among, from_ready}
-use Rattle.bpsec_node.proofs.Agree.{AgreeAt, Settled, block_at_number, ready_bib, free_agrees, site_of_same}
+use Rattle.bpsec_node.proofs.Agree.{Settled, block_at_number, ready_bib, free_agrees, site_of_same}
 use Rattle.bpsec_node.proofs.Operations.{operation_if_among}
 use Rattle.bpsec_node.proofs.Sited.{free_shown, cipher_block, cipher_uncovered, uncovered_free, uncovered_open, uncovered_shown_at, bib_site, bcb_site}
 

@@ -1,16 +1,16 @@
 -- Bundles that a node makes are bundles.
-use Rattle.std.proofs.Common.{◌≡◌, ◌≢◌, ℕ, ℤ, zero, suc, ◌+◌, ◌-◌, ◌<◌, ◌≤◌, inl, inr, ◌⊎◌, Bool, true, false, ◌&&◌, ◌||◌, not, cond, eqb, List, [], ◌∷◌, ◌++◌, length, map, get_or, Option, Some, None, Result, Ok, Err, refl, sym, ◌∙◌, ap, subst, arith, length-append}
-use Rattle.std.specs.Prelude.{filter, find, is_some, option_map}
-use Rattle.std.specs.List.{All, flat_map}
-use Rattle.std.proofs.lemmas.Bool.{eqb-true, eqb-false, eq-eqb, ne_eqb}
+use Rattle.std.proofs.Common.{◌≡◌, ◌≢◌, ℕ, zero, suc, ◌+◌, ◌-◌, ◌<◌, ◌≤◌, inl, inr, Bool, true, false, ◌&&◌, ◌||◌, not, cond, eqb, List, [], ◌∷◌, ◌++◌, length, map, get_or, Option, Some, None, Result, Ok, Err, refl, sym, ◌∙◌, ap, subst, arith, length-append}
+use Rattle.std.specs.Prelude.{filter}
+use Rattle.std.specs.List.{flat_map}
+use Rattle.std.proofs.lemmas.Bool.{eqb-true}
 use Rattle.cbor_profile.specs.declared.fault.Fault.{Fault}
-use Rattle.cbor_profile.specs.Put.{uint, int, array_head}
+use Rattle.cbor_profile.specs.Put.{uint, array_head}
 use Rattle.cbor_profile.specs.declared.TheConstants.{BUNDLE_LIMIT}
-use Rattle.bp_eid.specs.EndpointId as ids
+use Rattle.cbor_profile.proofs.Sizes.{head_grows}
 use Rattle.bp_eid.proofs.Steps.{IsBytes}
 use Rattle.bp_blocks.specs.declared.block.Block.{Block}
 use Rattle.bp_bundle.specs.Shape.{Contents}
-use Rattle.bp_bundle.specs.Spelling.{IsPayload, IsNumbered, IsBundle, spelling}
+use Rattle.bp_bundle.specs.Spelling.{IsNumbered, IsBundle, spelling}
 use Rattle.bp_bundle.specs.Edits.{body_at, with_body}
 use Rattle.bpsec_asb.specs.declared.asb.Asb.{Asb}
 use Rattle.bpsec_asb.specs.declared.asb.Pair.{Pair}
@@ -22,10 +22,8 @@ use Rattle.bpsec_asb.specs.Operations.{NumbersAreDistinct, BodiesAreBytes}
 use Rattle.bpsec_asb.specs.Reading.{read_body}
 use Rattle.bpsec_asb.specs.Known.{operation}
 use Rattle.bpsec_asb.proofs.Blocks.{read_means}
-use Rattle.bpsec_asb.proofs.Members.{Among, among, contains, from-map}
+use Rattle.bpsec_asb.proofs.Members.{Among, contains}
 use Rattle.std.proofs.lemmas.List.Elements.{All-contains}
-use Rattle.bpsec_scope.specs.Parts.{Parts}
-use Rattle.bpsec_node.specs.declared.event.Event.{Event}
 use Rattle.bpsec_node.specs.Situation.{Meaning, Situation}
 use Rattle.bpsec_node.specs.Site.{Site, block_at, site, asb_in, body_in, open_by, open_over}
 use Rattle.bpsec_node.specs.Plain.{cover, opens, plain_by, plain_body, plain_block, plain}
@@ -34,11 +32,10 @@ use Rattle.bpsec_node.specs.Order.{is_free, shown_block, shown}
 use Rattle.bpsec_node.specs.Events.{events}
 use Rattle.bpsec_node.specs.Outcome.{is_removed, is_discarded, is_dropped, results_without, without, with_targets, remaining_asb, remaining_kind, remaining, resulting}
 use Rattle.bpsec_node.proofs.Members.{cover_found, both}
-use Rattle.bpsec_node.proofs.Agree.{plain_number, plain_kind}
 use Rattle.bpsec_node.proofs.Operations.{at_itself}
 use Rattle.bpsec_node.specs.Longer.{NeverLonger}
 use Rattle.bpsec_node.specs.Shrunk.{Shrinks, Shrunk}
-use Rattle.bpsec_node.proofs.Shrinking.{shrinks_itself, shrinks_body, shrinks_on, shrunk_map, shrunk_bundle, shrunk_spelling, head_grows}
+use Rattle.bpsec_node.proofs.Shrinking.{shrinks_itself, shrinks_body, shrinks_on, shrunk_map, shrunk_bundle, shrunk_spelling}
 
 -- ---- opened bodies
 

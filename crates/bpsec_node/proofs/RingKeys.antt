@@ -1,5 +1,5 @@
 -- Keys of a ring are short.
-use Rattle.std.proofs.Common.{◌≡◌, ℕ, ◌≤◌, ◌^◌, inl, inr, Bool, true, false, ◌&&◌, leb, List, [], ◌∷◌, length, Option, Some, None, refl, sym, ◌∙◌, ap, subst, arith}
+use Rattle.std.proofs.Common.{◌≡◌, ℕ, ◌≤◌, ◌^◌, inl, inr, Bool, true, ◌&&◌, leb, List, [], ◌∷◌, length, Option, Some, None, refl, sym, ◌∙◌, ap, arith}
 use Rattle.std.specs.Prelude.{find, option_map}
 use Rattle.std.specs.List.{list_all}
 use Rattle.std.specs.Str.{bytes_eq}
@@ -7,7 +7,6 @@ use Rattle.std.proofs.lemmas.Bool.{leb-true}
 use Rattle.bpsec_asb.proofs.Members.{Among}
 use Rattle.bpsec_policy.specs.declared.ring.NamedKey.{NamedKey}
 use Rattle.bp_text.specs.Shape.{is_name}
-use Rattle.bpsec_policy.specs.Names.{all_differ}
 use Rattle.bpsec_policy.specs.Ring.{is_named_key, is_ring, key_of}
 use Rattle.bpsec_node.proofs.Members.{both, found}
 

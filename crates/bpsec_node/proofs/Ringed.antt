@@ -1,18 +1,17 @@
 -- The keys of a ring, as a session goes on.
-use Rattle.std.proofs.Common.{◌≡◌, ℕ, ◌+◌, inl, inr, ◌⊎◌, Bool, true, false, ◌&&◌, ◌||◌, cond, not, List, [], ◌∷◌, ◌++◌, length, Option, Some, None, refl, sym, ◌∙◌, ap, subst, arith, length-append}
+use Rattle.std.proofs.Common.{◌≡◌, ℕ, ◌+◌, inl, inr, ◌⊎◌, Bool, true, false, cond, List, [], ◌∷◌, ◌++◌, length, Option, Some, None, refl, sym, ◌∙◌, ap, arith}
 use mathlib.Core.Path.{fun_ext}
 use Rattle.bpsec_asb.specs.declared.operation.Service.{Service}
 use Rattle.bpsec_asb.specs.declared.operation.Service.TheVariants.{Bib, Bcb}
 use Rattle.bpsec_asb.specs.declared.operation.OpId.{OpId}
-use Rattle.bpsec_asb.specs.Known.{ciphers}
-use Rattle.bpsec_asb.proofs.Members.{Among, among, contains, among-left, among-right, among-append}
+use Rattle.bpsec_asb.proofs.Members.{Among, among, among-left, among-right, among-append}
 use Rattle.bpsec_policy.specs.declared.ring.NamedKey.{NamedKey}
 use Rattle.bpsec_policy.specs.declared.rule.Rule.{Rule}
 use Rattle.bpsec_node.specs.Situation.{Meaning, Situation, is_op, is_among}
 use Rattle.bpsec_node.specs.Agree.{with_keys, Agree}
 use Rattle.bpsec_node.specs.Plain.{cover}
 use Rattle.bpsec_node.specs.Verdict.{rule}
-use Rattle.bpsec_node.specs.Order.{is_free, ready}
+use Rattle.bpsec_node.specs.Order.{ready}
 use Rattle.bpsec_node.specs.Ring.{key_named, ring_key, others_by, with_ring}
 use Rattle.bpsec_node.specs.View.{Progress, key_in, situation, after_step}
 use Rattle.bpsec_node.proofs.Members.{is_op_same, is_op_itself, from_is_among, is_among_from, cover_found, from_ready}

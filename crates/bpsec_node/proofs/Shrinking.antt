@@ -1,15 +1,13 @@
 -- A bundle whose blocks keep their headers, some of them without their bodies' last bytes and some left out, is a bundle.
-use Rattle.std.proofs.Common.{◌≡◌, ◌≢◌, ℕ, zero, suc, ◌+◌, ◌-◌, ◌^◌, ◌<◌, ◌≤◌, inl, inr, ◌⊎◌, Bool, true, false, cond, eqb, IsTrue, List, [], ◌∷◌, ◌++◌, length, map, get_or, refl, sym, ◌∙◌, ap, subst, arith, length-append}
+use Rattle.std.proofs.Common.{◌≡◌, ◌≢◌, ℕ, suc, ◌+◌, ◌-◌, ◌≤◌, inl, inr, IsTrue, List, [], ◌∷◌, ◌++◌, length, map, get_or, refl, sym, ◌∙◌, ap, subst, arith, length-append}
 use Rattle.std.specs.List.{All, AllPairs, HoldsAt, flat_map}
-use Rattle.std.proofs.lemmas.Bool.{cases_lt, lt-ltb, le-ltb}
 use Rattle.std.proofs.lemmas.List.Kept.{AllPairs-cons}
 use Rattle.cbor_profile.specs.Head.{head_spelling}
+use Rattle.cbor_profile.proofs.Sizes.{head_grows}
 use Rattle.cbor_profile.specs.Put.{uint, byte_string, array_head}
 use Rattle.cbor_profile.specs.declared.TheConstants.{BUNDLE_LIMIT}
 use Rattle.bp_crc.specs.declared.kind.CheckKind.{CheckKind}
 use Rattle.bp_crc.specs.Item.{zeros, check_item, check_count, check_type}
-use Rattle.bp_primary.specs.declared.primary.Primary.{Primary}
-use Rattle.bp_primary.specs.Spelling.{IsPrimary}
 use Rattle.bp_blocks.specs.declared.block.Block.{Block}
 use Rattle.bp_blocks.specs.Spelling.{IsBlock}
 use Rattle.bp_blocks.specs.Spelling as blocks
@@ -17,7 +15,7 @@ use Rattle.bp_blocks.proofs.Pieces as block_pieces
 use Rattle.bp_bundle.specs.Shape.{Contents}
 use Rattle.bp_bundle.specs.Spelling.{IsPayload, IsNumbered, is_single, IsBundle, spelling}
 use Rattle.bp_primary.specs.Spelling as primaries
-use Rattle.bpsec_asb.proofs.Members.{Among, among, contains}
+use Rattle.bpsec_asb.proofs.Members.{Among, contains}
 use Rattle.bpsec_node.specs.Shrunk.{Shrinks, Shrunk}
 use Rattle.bpsec_asb.proofs.Held.{all_members}
 use Rattle.std.proofs.lemmas.List.Elements.{All-contains}
@@ -37,51 +35,6 @@ whole_size bundle =
     let p = primaries.spelling bundle.primary in
     let b = spelled bundle.blocks in
     omega (arith, length-append (p ++ b) (0xff ∷ []), length-append p b)
-
--- ---- heads
-
--- a head of a lesser argument isn't longer
-pub head_grows : (major a b : ℕ) → a ≤ b → length (head_spelling major a) ≤ length (head_spelling major b)
-head_grows major a b le =
-    elim (cases_lt b 24) [
-      | inl lt ↦ let lt' : a < 24 = omega arith in rw (lt-ltb _ _ lt, lt-ltb _ _ lt') (omega arith)
-      | inr over ↦ elim (cases_lt b (2 ^ 8)) [
-        | inl lt ↦ let lt' : a < 2 ^ 8 = omega arith in rw (le-ltb _ _ over, lt-ltb _ _ lt) (at_most_two lt')
-        | inr over8 ↦ elim (cases_lt b (2 ^ 16)) [
-          | inl lt ↦ let lt' : a < 2 ^ 16 = omega arith in rw (le-ltb _ _ over, le-ltb _ _ over8, lt-ltb _ _ lt) (at_most_three lt')
-          | inr over16 ↦ elim (cases_lt b (2 ^ 32)) [
-            | inl lt ↦ let lt' : a < 2 ^ 32 = omega arith in rw (le-ltb _ _ over, le-ltb _ _ over8, le-ltb _ _ over16, lt-ltb _ _ lt) (at_most_five lt')
-            | inr over32 ↦ rw (le-ltb _ _ over, le-ltb _ _ over8, le-ltb _ _ over16, le-ltb _ _ over32) (let short = block_pieces.head_is_short major a in omega arith)
-          ]
-        ]
-      ]
-    ]
-  where
-    at_most_two : a < 2 ^ 8 → length (head_spelling major a) ≤ 2
-    at_most_two small = elim (cases_lt a 24) [ inl lt ↦ rw (lt-ltb _ _ lt) (omega arith) | inr over ↦ rw (le-ltb _ _ over, lt-ltb _ _ small) (omega arith) ]
-
-    at_most_three : a < 2 ^ 16 → length (head_spelling major a) ≤ 3
-    at_most_three small =
-        elim (cases_lt a 24) [
-          | inl lt ↦ rw (lt-ltb _ _ lt) (omega arith)
-          | inr over ↦ elim (cases_lt a (2 ^ 8)) [
-            | inl lt ↦ rw (le-ltb _ _ over, lt-ltb _ _ lt) (omega arith)
-            | inr over8 ↦ rw (le-ltb _ _ over, le-ltb _ _ over8, lt-ltb _ _ small) (omega arith)
-          ]
-        ]
-
-    at_most_five : a < 2 ^ 32 → length (head_spelling major a) ≤ 5
-    at_most_five small =
-        elim (cases_lt a 24) [
-          | inl lt ↦ rw (lt-ltb _ _ lt) (omega arith)
-          | inr over ↦ elim (cases_lt a (2 ^ 8)) [
-            | inl lt ↦ rw (le-ltb _ _ over, lt-ltb _ _ lt) (omega arith)
-            | inr over8 ↦ elim (cases_lt a (2 ^ 16)) [
-              | inl lt ↦ rw (le-ltb _ _ over, le-ltb _ _ over8, lt-ltb _ _ lt) (omega arith)
-              | inr over16 ↦ rw (le-ltb _ _ over, le-ltb _ _ over8, le-ltb _ _ over16, lt-ltb _ _ small) (omega arith)
-            ]
-          ]
-        ]
 
 -- ---- blocks
 

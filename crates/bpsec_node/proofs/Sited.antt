@@ -1,33 +1,27 @@
 -- Operations over the blocks as they are shown.
-use Rattle.std.proofs.Common.{◌≡◌, ◌≢◌, ℕ, inl, inr, ◌⊎◌, Bool, true, false, ◌&&◌, ◌||◌, not, cond, eqb, List, [], ◌∷◌, map, Option, Some, None, Result, Ok, Err, refl, sym, ◌∙◌, ap, subst}
-use Rattle.std.specs.Prelude.{Contains, filter, find, is_some, option_map}
-use Rattle.std.specs.List.{list_any}
+use Rattle.std.proofs.Common.{◌≡◌, ℕ, inl, inr, Bool, true, false, ◌||◌, not, cond, eqb, List, [], ◌∷◌, map, Option, Some, None, refl, sym, ◌∙◌, ap, subst}
+use Rattle.std.specs.Prelude.{is_some, option_map}
 use Rattle.std.proofs.lemmas.Bool.{eqb-true, eq-eqb}
-use Rattle.cbor_profile.specs.declared.fault.Fault.{Fault}
 use Rattle.bp_primary.specs.declared.primary.Primary.{Primary}
 use Rattle.bp_blocks.specs.declared.block.Block.{Block}
 use Rattle.bp_bundle.specs.Shape.{Contents}
-use Rattle.bpsec_asb.specs.declared.asb.Asb.{Asb}
 use Rattle.bpsec_asb.specs.declared.operation.Service.{Service}
-use Rattle.bpsec_asb.specs.declared.operation.Service.TheVariants.{Bib, Bcb}
+use Rattle.bpsec_asb.specs.declared.operation.Service.TheVariants.{Bcb}
 use Rattle.bpsec_asb.specs.declared.operation.OpId.{OpId}
 use Rattle.bpsec_asb.specs.Operations.{NumbersAreDistinct}
 use Rattle.bpsec_asb.specs.Known.{targets_of, held_by, ciphers}
 use Rattle.bpsec_asb.specs.Reading.{read_body}
-use Rattle.bpsec_asb.proofs.Members.{Among, among, contains, from-flat_map, from-filter, among-filter}
-use Rattle.bpsec_node.specs.declared.held.Held.{Held}
-use Rattle.bpsec_node.specs.Situation.{Situation, is_op, is_among}
-use Rattle.bpsec_node.specs.Site.{Site, block_at, site}
+use Rattle.bpsec_asb.proofs.Members.{Among, contains, from-flat_map, from-filter, among-filter}
+use Rattle.bpsec_node.specs.Situation.{Situation, is_among}
+use Rattle.bpsec_node.specs.Site.{block_at, site}
 use Rattle.bpsec_node.specs.Plain.{may_be_covered, covers, cover, is_opened, plain_by, plain_body, plain_block, plain}
-use Rattle.bpsec_node.specs.AllOperations.{all_operations, is_open}
-use Rattle.bpsec_node.specs.Verdict.{is_bib, site_by, site_of}
-use Rattle.bpsec_node.specs.Order.{is_done_or_none, is_free, is_ready, ready, shown_block, shown}
-use Rattle.bpsec_node.specs.Begin.{IsCoveredBy, CoveredOnce}
-use Rattle.bpsec_node.specs.Session.{has, applies_to, is_operation_by, is_operation, holds_operations, held_of, is_read, held_by_block, held_at}
-use Rattle.bpsec_node.proofs.Members.{both, both_true, same_truth, is_op_same, is_op_itself, from_is_among, is_among_from, found, from_ready, cover_found, held_parts}
-use Rattle.bpsec_node.proofs.Agree.{plain_at, plain_number, block_at_number, ready_bib}
+use Rattle.bpsec_node.specs.AllOperations.{is_open}
+use Rattle.bpsec_node.specs.Order.{is_done_or_none, is_free, shown_block, shown}
+use Rattle.bpsec_node.specs.Begin.{CoveredOnce}
+use Rattle.bpsec_node.proofs.Members.{found, cover_found, held_parts}
+use Rattle.bpsec_node.proofs.Agree.{plain_at, plain_number, block_at_number}
 use Rattle.bpsec_node.proofs.Ended.{cipher_service}
-use Rattle.bpsec_node.proofs.Operations.{is_among_all, at_itself}
+use Rattle.bpsec_node.proofs.Operations.{at_itself}
 
 -- ---- blocks that are shown
 

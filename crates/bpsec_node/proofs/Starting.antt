@@ -1,7 +1,6 @@
 -- What a session keeps at its beginning is what it is to keep.
-use Rattle.std.proofs.Common.{◌≡◌, ◌≢◌, ℕ, suc, ◌<◌, inl, inr, ◌⊎◌, Bool, true, false, ◌&&◌, ◌||◌, not, cond, eqb, List, [], ◌∷◌, ◌++◌, map, Option, Some, None, refl, sym, ◌∙◌, ap, subst, arith}
-use Rattle.std.specs.Prelude.{AllPairs, filter, find, is_some, option_map}
-use Rattle.std.specs.List.{list_any, flat_map}
+use Rattle.std.proofs.Common.{◌≡◌, ◌≢◌, ℕ, suc, Bool, true, false, ◌&&◌, ◌||◌, not, cond, eqb, List, [], ◌∷◌, ◌++◌, map, Option, Some, None, refl, sym, ◌∙◌, ap, subst, arith}
+use Rattle.std.specs.Prelude.{filter, find, is_some}
 use Rattle.std.specs.Option.{option_or}
 use Rattle.std.proofs.lemmas.Bool.{eqb-true, eq-eqb, ne_eqb}
 use Rattle.std.proofs.lemmas.List.Folds.{find-append, list_any-append}
@@ -14,7 +13,7 @@ use Rattle.bpsec_asb.specs.declared.operation.OpId.{OpId}
 use Rattle.bpsec_asb.specs.Operations.{NumbersAreDistinct}
 use Rattle.bpsec_asb.specs.Known.{operation, ciphers, targets_of}
 use Rattle.bpsec_asb.specs.Reading.{read_body}
-use Rattle.bpsec_asb.proofs.Members.{Among, contains}
+use Rattle.bpsec_asb.proofs.Members.{contains}
 use Rattle.bpsec_policy.specs.Rules.{same_service}
 use Rattle.bpsec_node.specs.declared.held.Held.{Held}
 use Rattle.bpsec_node.specs.Situation.{Situation, is_op, is_among}
@@ -22,12 +21,12 @@ use Rattle.bpsec_node.specs.Site.{block_at}
 use Rattle.bpsec_node.specs.Plain.{covers, cover, plain_block, plain}
 use Rattle.bpsec_node.specs.AllOperations.{is_open}
 use Rattle.bpsec_node.specs.Verdict.{is_bib}
-use Rattle.bpsec_node.specs.Order.{is_done_or_none, is_free, LegalFrom, Legal, shown_block, shown}
+use Rattle.bpsec_node.specs.Order.{is_done_or_none, is_free, Legal, shown_block, shown}
 use Rattle.bpsec_node.specs.Begin.{CanBegin}
-use Rattle.bpsec_node.specs.Session.{has, applies_to, is_operation_by, is_operation, is_shown, holds_operations, held_of, is_read, find_held, held_by_block, held_at, IsKept}
+use Rattle.bpsec_node.specs.Session.{has, applies_to, is_operation_by, is_operation, is_shown, held_of, is_read, find_held, held_by_block, held_at, IsKept}
 use Rattle.bpsec_node.specs.Lists.{ready_among}
 use Rattle.bpsec_node.specs.Least.{is_cipher, is_visible_bib, read_those, ops_of}
-use Rattle.bpsec_node.specs.Start.{first_covers, first_sealed, first_ops}
+use Rattle.bpsec_node.specs.Start.{first_sealed, first_ops}
 use Rattle.bpsec_node.proofs.Members.{same_truth, from_is_among}
 use Rattle.bpsec_node.proofs.Agree.{block_at_number}
 use Rattle.bpsec_node.proofs.Ended.{cipher_service}

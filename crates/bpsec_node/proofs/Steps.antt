@@ -1,13 +1,12 @@
 -- A step of a session.
-use Rattle.std.proofs.Common.{◌≡◌, ◌≢◌, ℕ, suc, ◌+◌, inl, inr, ◌⊎◌, Bool, true, false, ◌&&◌, ◌||◌, not, cond, List, [], ◌∷◌, ◌++◌, length, Option, Some, None, refl, sym, ◌∙◌, ap, subst, arith}
+use Rattle.std.proofs.Common.{◌≡◌, ℕ, ◌+◌, inl, inr, Bool, true, false, ◌&&◌, ◌||◌, not, cond, List, [], ◌∷◌, ◌++◌, length, Option, Some, None, refl, sym, ◌∙◌, ap, arith}
 use Rattle.std.specs.Prelude.{Contains, is_some}
 use Rattle.std.proofs.lemmas.List.{length-append}
 use Rattle.bp_bundle.specs.Shape.{Contents}
 use Rattle.bpsec_asb.specs.declared.operation.Service.{Service}
 use Rattle.bpsec_asb.specs.declared.operation.Service.TheVariants.{Bib, Bcb}
 use Rattle.bpsec_asb.specs.declared.operation.OpId.{OpId}
-use Rattle.bpsec_asb.proofs.Members.{Among, among, contains}
-use Rattle.bpsec_policy.specs.Rules as policies
+use Rattle.bpsec_asb.proofs.Members.{Among, among}
 use Rattle.bpsec_node.specs.declared.event.Verdict.{Verdict}
 use Rattle.bpsec_node.specs.declared.held.Held.{Held}
 use Rattle.bpsec_node.specs.declared.over.Over.{Over}
@@ -17,12 +16,12 @@ use Rattle.bpsec_node.specs.Site.{Site, site, kind_at, role_over, judge_over}
 use Rattle.bpsec_node.specs.Plain.{cover, is_opened}
 use Rattle.bpsec_node.specs.AllOperations.{is_open}
 use Rattle.bpsec_node.specs.Verdict.{is_bib, site_of, role, judgement, is_blocked, table, verdict_with, step_verdict}
-use Rattle.bpsec_node.specs.Order.{is_free, is_ready, ready, shown}
+use Rattle.bpsec_node.specs.Order.{is_free, ready, shown}
 use Rattle.bpsec_node.specs.Over.{site_in, verdict_over}
 use Rattle.bpsec_node.specs.Session.{has, is_covering, IsKept, IsSession}
 use Rattle.bpsec_node.specs.Lists.{without_op}
 use Rattle.bpsec_node.specs.View.{Progress, key_in, situation, after_step}
-use Rattle.bpsec_node.proofs.Members.{is_op_same, is_op_itself, from_is_among, is_among_from}
+use Rattle.bpsec_node.proofs.Members.{is_op_itself}
 use Rattle.bpsec_node.proofs.Agree.{ready_bib}
 use Rattle.bpsec_node.proofs.Sited.{cover_itself, free_by_cover, uncovered_open}
 use Rattle.bpsec_node.proofs.ReadyOps.{IsReady, ready_is, ready_undone, operation_cipher, ready_site_after}

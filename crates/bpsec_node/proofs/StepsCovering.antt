@@ -1,12 +1,12 @@
 -- A step of a session that covers a block.
-use Rattle.std.proofs.Common.{◌≡◌, ◌≢◌, ℕ, Bool, true, false, ◌&&◌, not, cond, List, [], ◌∷◌, ◌++◌, length, Option, Some, None, refl, sym, ◌∙◌, ap, subst}
-use Rattle.std.specs.Prelude.{Contains, All, is_some, option_to_list}
+use Rattle.std.proofs.Common.{◌≡◌, ◌≢◌, ℕ, true, false, ◌&&◌, not, cond, List, [], ◌∷◌, ◌++◌, Option, Some, None, refl, sym, ◌∙◌, ap}
+use Rattle.std.specs.Prelude.{Contains, is_some, option_to_list}
 use Rattle.std.proofs.lemmas.List.Elements.{All-contains}
 use Rattle.bp_blocks.specs.declared.block.Block.{Block}
 use Rattle.bp_bundle.specs.Shape.{Contents}
 use Rattle.bp_bundle.specs.Spelling.{IsBundle, IsNumbered}
 use Rattle.bpsec_asb.specs.declared.operation.Service.{Service}
-use Rattle.bpsec_asb.specs.declared.operation.Service.TheVariants.{Bib, Bcb}
+use Rattle.bpsec_asb.specs.declared.operation.Service.TheVariants.{Bcb}
 use Rattle.bpsec_asb.specs.declared.operation.OpId.{OpId}
 use Rattle.bpsec_asb.proofs.Members.{contains}
 use Rattle.bpsec_node.specs.declared.event.Verdict.{Verdict}
@@ -16,20 +16,20 @@ use Rattle.bpsec_node.specs.Situation.{Meaning, Situation}
 use Rattle.bpsec_node.specs.Agree.{with_keys, Agree}
 use Rattle.bpsec_node.specs.Site.{Site, block_at, site, role_over, judge_over, open_over}
 use Rattle.bpsec_node.specs.Plain.{may_be_covered, cover, is_acceptor, is_right, opens, is_opened}
-use Rattle.bpsec_node.specs.Verdict.{is_bib, is_blocked, step_verdict, site_by, site_of}
+use Rattle.bpsec_node.specs.Verdict.{is_bib, is_blocked, step_verdict}
 use Rattle.bpsec_node.specs.Order.{ready, shown}
-use Rattle.bpsec_node.specs.Over.{site_in, target_in, type_of, verdict_over, opened_over}
+use Rattle.bpsec_node.specs.Over.{site_in, target_in, verdict_over, opened_over}
 use Rattle.bpsec_node.specs.Session.{is_covering, IsSession}
 use Rattle.bpsec_node.specs.Lists.{without_op, without_number, new_ops, ready_among}
 use Rattle.bpsec_node.specs.Change.{held_after, stuck_after, opened_bundle}
-use Rattle.bpsec_node.specs.View.{Progress, key_in, situation, after_step}
+use Rattle.bpsec_node.specs.View.{Progress, situation, after_step}
 use Rattle.bpsec_node.proofs.Agree.{block_at_number}
 use Rattle.bpsec_node.specs.Longer.{NeverLonger}
 use Rattle.bpsec_node.proofs.Sited.{bcb_site}
 use Rattle.bpsec_node.proofs.ReadyOps.{IsReady, ready_is, ready_undone, operation_cipher, ready_site_after}
 use Rattle.bpsec_node.proofs.Opened.{service, may, opened, target_block}
 use Rattle.bpsec_node.proofs.Uncovered.{kept_covering, covering_shape}
-use Rattle.bpsec_node.proofs.Steps.{over_verdict, next_key, next_agrees, next_undone, next_last, next_keyed}
+use Rattle.bpsec_node.proofs.Steps.{over_verdict, next_key, next_agrees, next_last, next_keyed}
 
 module _ (suite : Meaning) (p : Progress) (now : Contents) (held : List Held) (sealed stuck : List ℕ) (open_ops ready_ops : List OpId) (verdicts : List Verdict)
     (session : IsSession suite p now held sealed stuck open_ops ready_ops verdicts) (op : OpId) (key : Option (List ℕ)) (there : Contains (ready (situation suite p) p.done) op)

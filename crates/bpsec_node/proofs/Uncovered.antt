@@ -1,21 +1,17 @@
 -- A step that covers a block: what is known and ready afterwards.
-use Rattle.std.proofs.Common.{◌≡◌, ◌≢◌, ℕ, inl, inr, ◌⊎◌, Bool, true, false, ◌&&◌, ◌||◌, not, cond, eqb, List, [], ◌∷◌, ◌++◌, map, Option, Some, None, Result, Ok, Err, refl, sym, ◌∙◌, ap, subst}
-use Rattle.std.specs.Prelude.{Contains, filter, find, is_some, option_map, option_to_list}
-use Rattle.std.specs.List.{list_any}
-use Rattle.std.proofs.lemmas.Bool.{eqb-true, eq-eqb, ne_eqb}
+use Rattle.std.proofs.Common.{◌≡◌, ℕ, inl, inr, ◌⊎◌, Bool, true, false, ◌&&◌, ◌||◌, not, cond, eqb, List, [], ◌∷◌, ◌++◌, map, Option, Some, None, refl, sym, ◌∙◌, ap, subst}
+use Rattle.std.specs.Prelude.{Contains, option_to_list}
+use Rattle.std.proofs.lemmas.Bool.{eqb-true, eq-eqb}
 use Rattle.std.proofs.lemmas.List.{map-append}
 use Rattle.std.proofs.lemmas.List.Folds.{list_any-append}
-use Rattle.cbor_profile.specs.declared.fault.Fault.{Fault}
 use Rattle.bp_blocks.specs.declared.block.Block.{Block}
 use Rattle.bp_bundle.specs.Shape.{Contents}
 use Rattle.bp_bundle.specs.Spelling.{IsBundle}
-use Rattle.bpsec_asb.specs.declared.asb.Asb.{Asb}
 use Rattle.bpsec_asb.specs.declared.operation.Service.{Service}
 use Rattle.bpsec_asb.specs.declared.operation.Service.TheVariants.{Bib, Bcb}
 use Rattle.bpsec_asb.specs.declared.operation.OpId.{OpId}
-use Rattle.bpsec_asb.specs.Known.{operation, ciphers, targets_of}
+use Rattle.bpsec_asb.specs.Known.{operation, targets_of}
 use Rattle.bpsec_asb.specs.Reading.{read_body}
-use Rattle.bpsec_asb.proofs.Members.{Among, among, contains}
 use Rattle.bpsec_policy.specs.Rules.{same_service}
 use Rattle.bpsec_node.specs.declared.event.Verdict.{Verdict}
 use Rattle.bpsec_node.specs.declared.held.Held.{Held}
@@ -23,20 +19,20 @@ use Rattle.bpsec_node.specs.Situation.{Situation, is_op, is_among}
 use Rattle.bpsec_node.specs.Agree.{with_keys, Agree}
 use Rattle.bpsec_node.specs.Site.{block_at, site, open_over}
 use Rattle.bpsec_node.specs.Plain.{opens, plain}
-use Rattle.bpsec_node.specs.AllOperations.{all_operations, is_open}
+use Rattle.bpsec_node.specs.AllOperations.{is_open}
 use Rattle.bpsec_node.specs.Verdict.{is_bib, step_verdict}
-use Rattle.bpsec_node.specs.Order.{is_free, is_ready, ready, shown}
+use Rattle.bpsec_node.specs.Order.{is_free, ready}
 use Rattle.bpsec_node.specs.Session.{has, applies_to, is_operation_by, is_operation, is_shown, is_covering, IsKept}
 use Rattle.bpsec_node.specs.Lists.{without_op, without_number, new_ops, ready_among}
 use Rattle.bpsec_node.specs.Change.{held_after, stuck_after, opened_block, opened_bundle}
-use Rattle.bpsec_node.proofs.Members.{both_true, same_truth, is_op_same, is_op_itself, from_is_among}
+use Rattle.bpsec_node.proofs.Members.{same_truth, is_op_same, from_is_among}
 use Rattle.bpsec_node.proofs.Agree.{block_at_number, ready_same}
 use Rattle.bpsec_node.proofs.Legal.{legal_same, done_free}
 use Rattle.bpsec_node.specs.Longer.{NeverLonger}
 use Rattle.bpsec_node.proofs.Results.{shown_bundle}
 use Rattle.bpsec_node.proofs.Keeping.{among_more, is_op_sym, known_same, legal_push, verdicts_same}
 use Rattle.bpsec_node.proofs.Other.{among_without, regroup_open}
-use Rattle.bpsec_node.proofs.Opened.{service, unfree, opened, free, free_other, free_target, open_target, plain_target, now_more, sealed_more, stuck_more, target_block, held_more}
+use Rattle.bpsec_node.proofs.Opened.{service, unfree, opened, free_other, free_target, open_target, plain_target, now_more, sealed_more, stuck_more, target_block, held_more}
 use Rattle.bpsec_node.proofs.ReadyFrom.{ready_from}
 
 or_none : (b : Bool) → (b || false) ≡ b

@@ -1,6 +1,6 @@
 -- A session that runs with a key ring, step by step.
-use Rattle.std.proofs.Common.{◌≡◌, ℕ, zero, suc, ◌+◌, ◌≤◌, inl, inr, Bool, true, false, List, [], ◌∷◌, ◌++◌, map, length, Option, Some, None, refl, sym, ◌∙◌, ap, subst, append_assoc, arith}
-use Rattle.std.specs.Prelude.{Contains, slice_get, Result, Ok, Err, IfOk, IfErr}
+use Rattle.std.proofs.Common.{◌≡◌, ℕ, zero, suc, ◌+◌, ◌≤◌, inl, inr, false, List, [], ◌∷◌, ◌++◌, map, length, Option, Some, refl, sym, ◌∙◌, ap, append_assoc, arith}
+use Rattle.std.specs.Prelude.{slice_get, Result, Ok, Err, IfOk, IfErr}
 use Rattle.std.proofs.lemmas.List.{append-nil, map-append, length-append}
 use Rattle.bp_bundle.specs.Spelling.{IsBundle}
 use Rattle.bpsec_asb.specs.declared.operation.OpId.{OpId}
@@ -9,7 +9,7 @@ use Rattle.bpsec_policy.specs.declared.ring.NamedKey.{NamedKey}
 use Rattle.bpsec_policy.specs.declared.rule.Rule.{Rule}
 use Rattle.bpsec_node.specs.declared.event.Verdict.{Verdict}
 use Rattle.bpsec_node.specs.Situation.{Meaning, Situation, is_among}
-use Rattle.bpsec_node.specs.Agree.{with_keys, Agree}
+use Rattle.bpsec_node.specs.Agree.{Agree}
 use Rattle.bpsec_node.specs.AllOperations.{all_operations}
 use Rattle.bpsec_node.specs.Verdict.{rule, step_verdict}
 use Rattle.bpsec_node.specs.Events.{events}
@@ -17,8 +17,8 @@ use Rattle.bpsec_node.specs.Outcome.{Outcome, outcome}
 use Rattle.bpsec_node.specs.Order.{ready, picked, picks, Legal}
 use Rattle.bpsec_node.specs.Ring.{key_named, ring_key, with_ring}
 use Rattle.bpsec_node.specs.Running.{ringed, Stepped, Ran, Ended}
-use Rattle.bpsec_node.specs.View.{Progress, End, situation, after_step, end_of}
-use Rattle.bpsec_node.proofs.Members.{from_ready, is_among_from}
+use Rattle.bpsec_node.specs.View.{Progress, End, situation, end_of}
+use Rattle.bpsec_node.proofs.Members.{from_ready}
 use Rattle.bpsec_node.proofs.Ended.{all_done}
 use Rattle.bpsec_node.proofs.OutcomeSame.{outcome_same}
 use Rattle.bpsec_node.proofs.Ringed.{ring_keeps, ring_gives, ready_rule, ring_step, ring_ready}

@@ -41,7 +41,7 @@ pub enum BeginFault {
         first: u64,
         second: u64,
     },
-    /// Memory ran out.
+    /// No memory was left.
     NoMemory,
 }
 
@@ -229,7 +229,7 @@ impl<'a, S: Suite> Session<'a, S> {
         ensures ok { IfOk result (λ session. session ≡ record { received = bundle; policy = policy.now; done = []; keys = [] }) }
         // Which fault it is, or none. Memory may run out in each case.
         ensures exact { MatchResult result (λ _. CanBegin bundle) (IsBeginFault bundle) }
-        ensures found { OnOk result (begin_fault bundle ≡ None) }
+        ensures means { OnOk result (begin_fault bundle ≡ None) }
         ensures fault { IfErr result (IsFaultOf bundle) }
     {
         let _size = bundle.size();

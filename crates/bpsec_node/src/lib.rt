@@ -22,10 +22,6 @@ mod run;
 mod session;
 mod site;
 mod step;
-#[cfg(test)]
-mod step_tests;
-#[cfg(test)]
-mod tests;
 
 pub use begin::BeginFault;
 pub use chooser::{Chooser, Digits};

@@ -53,7 +53,7 @@ fn over<'b>(
         ≡ record { primary = primary.now; security = block_at blocks.now op.block; target = block_at blocks.now op.target }) }
     ensures op { IfSome result (λ over. over.op ≡ op) }
     ensures read { IfSome result (λ over. option_map (λ h. h.read) (find_held held.now op.block) ≡ Some (Ok over.asb.now)) }
-    ensures found { is_some result ≡ (is_some (block_at blocks.now op.block) && is_readable (find_held held.now op.block)) }
+    ensures exact { is_some result ≡ (is_some (block_at blocks.now op.block) && is_readable (find_held held.now op.block)) }
 {
     let security = match find_block(blocks, op.block) {
         Some(block) => block,

@@ -2,12 +2,13 @@
 use Rattle.std.proofs.Common.{◌≡◌, ℕ, suc, true, cond, List, [], ◌∷◌, length, Option, Some, None, Ok, refl, ap, subst}
 use Rattle.std.specs.Prelude.{nat_le, is_some, unwrap_or, option_map, option_and_then}
 use Rattle.std.specs.List.{list_all}
+use Rattle.cbor_profile.specs.Step.{◌>>=◌}
 use Rattle.serde_json.specs.Data.{Data}
 use Rattle.serde_json.specs.Find.{get, as_str, as_number, as_u64}
 use Rattle.bp_text.specs.declared.fault.TextReason.{TextReason}
 use Rattle.bp_text.specs.declared.fault.TextReason.TheVariants.{WrongShape}
 use Rattle.bp_text.specs.declared.shape.Kind.TheVariants.{Name, Number, Distinct}
-use Rattle.bp_text.specs.Fault.{◌>>=◌, wanted}
+use Rattle.bp_text.specs.Fault.{wanted}
 use Rattle.bp_text.specs.Tree.{values_of}
 use Rattle.bp_text.specs.Shape.{is_of, has, may_have, passes, is_name, whole, wholes, are_distinct, are_distinct_wholes}
 use Rattle.bp_text.specs.Field.{bytes_at, whole_at, wholes_at, optional}

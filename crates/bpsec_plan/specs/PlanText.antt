@@ -1,6 +1,7 @@
 -- The text of a plan: `version` (1), `items` (1 to 62).
 use Rattle.std.specs.Prelude.{ℕ, Bool, false, ◌==◌, ◌&&◌, if◌then◌else◌, List, [], ◌∷◌, codes, unwrap_or, Option, Some, None, Result, Ok, Err}
 use Rattle.std.specs.Str.{bytes_eq}
+use Rattle.cbor_profile.specs.Step.{◌>>=◌}
 use Rattle.serde_json.specs.Data.{Data}
 use Rattle.bp_crc.specs.declared.kind.CheckKind.{CheckKind}
 use Rattle.bp_crc.specs.declared.kind.CheckKind.TheVariants as checks
@@ -8,7 +9,7 @@ use Rattle.bp_text.specs.declared.fault.TextReason.{TextReason}
 use Rattle.bp_text.specs.declared.fault.TextReason.TheVariants.{WrongShape, UnknownWord, TooMany}
 use Rattle.bp_text.specs.declared.fault.TextFault.{TextFault}
 use Rattle.bp_text.specs.declared.shape.Kind.TheVariants.{Text, Name, Number, Flag, Array, Distinct}
-use Rattle.bp_text.specs.Fault.{◌>>=◌, unless, wanted, top}
+use Rattle.bp_text.specs.Fault.{unless, wanted, top}
 use Rattle.bp_text.specs.Tree.{tree_of, number_at, text_at, flag_at, list_at}
 use Rattle.bp_text.specs.Shape.{has, has_only, may_have, passes}
 use Rattle.bp_text.specs.Field.{bytes_at, eid_at, hex_at, whole_at, wholes_at, optional}

@@ -1,8 +1,9 @@
 //! Reading items from the trees of their texts.
 
 ghost use Rattle.std.specs.Prelude.{◌≡◌, codes};
+ghost use Rattle.cbor_profile.specs.Step.{Gives};
 ghost use Rattle.serde_json.specs.View.{view};
-ghost use Rattle.bp_text.specs.Fault.{GivesField};
+ghost use Rattle.bp_text.specs.Fault.{IsFieldFault};
 ghost use Rattle.bp_text.specs.Tree.{number_at};
 ghost use Rattle.bp_text.specs.Shape.{passes};
 ghost use Rattle.bpsec_plan.specs.Items.{is_integrity_variant, is_cipher_variant};
@@ -45,7 +46,7 @@ fn check_of(number: u64) -> CheckKind
 /// Number, flags, check and targets.
 #[tactic(auto, unfolding(crate::specs::PlanText::frame_at))]
 fn read_frame(alloc: Global, tree: &Value) -> Result<(u64, u64, CheckKind, List<u64>), FieldFault>
-    ensures { GivesField (λ frame. frame) result (frame_at (view tree.now)) }
+    ensures { Gives IsFieldFault (λ frame. frame) result (frame_at (view tree.now)) }
 {
     let block = Field::read(alloc, tree, "block")?;
     let flags = Field::read(alloc, tree, "flags")?;
@@ -71,7 +72,7 @@ fn is_cover_shape(tree: &Value) -> bool
 /// The names of the key, and of the key that wraps it.
 #[tactic(auto, unfolding(crate::specs::PlanText::keys_at))]
 fn read_keys(alloc: Global, tree: &Value) -> Result<(Bytes, Option<Bytes>), FieldFault>
-    ensures { GivesField (λ keys. keys) result (keys_at (view tree.now)) }
+    ensures { Gives IsFieldFault (λ keys. keys) result (keys_at (view tree.now)) }
 {
     let key = Field::read(alloc, tree, "key")?;
     let wrapped_with = optional(alloc, tree, "wrapped_with")?;
@@ -81,7 +82,7 @@ fn read_keys(alloc: Global, tree: &Value) -> Result<(Bytes, Option<Bytes>), Fiel
 /// Variant and scope.
 #[tactic(auto, unfolding(crate::specs::PlanText::algorithm_at))]
 fn read_algorithm(alloc: Global, tree: &Value) -> Result<(u64, u64), FieldFault>
-    ensures { GivesField (λ algorithm. algorithm) result (algorithm_at (view tree.now)) }
+    ensures { Gives IsFieldFault (λ algorithm. algorithm) result (algorithm_at (view tree.now)) }
 {
     let variant = Field::read(alloc, tree, "variant")?;
     let scope = Field::read(alloc, tree, "scope")?;
@@ -91,7 +92,7 @@ fn read_algorithm(alloc: Global, tree: &Value) -> Result<(u64, u64), FieldFault>
 /// The fields of an item that adds operations.
 #[tactic(auto, unfolding(crate::specs::PlanText::cover_at))]
 fn read_cover(alloc: Global, tree: &Value) -> Result<Cover, FieldFault>
-    ensures { GivesField (λ cover. cover) result (cover_at (view tree.now)) }
+    ensures { Gives IsFieldFault (λ cover. cover) result (cover_at (view tree.now)) }
 {
     let (block, flags, crc, targets) = read_frame(alloc, tree)?;
     let source = Field::read(alloc, tree, "source")?;
@@ -159,7 +160,7 @@ fn is_bib_shape(tree: &Value) -> bool
 /// A bib item.
 #[tactic(auto, unfolding(crate::specs::PlanText::bib_at))]
 fn read_bib(alloc: Global, tree: &Value) -> Result<Item, FieldFault>
-    ensures { GivesField (λ item. item) result (bib_at (view tree.now)) }
+    ensures { Gives IsFieldFault (λ item. item) result (bib_at (view tree.now)) }
 {
     if !is_bib_shape(tree) {
         return Err(FieldFault::WrongShape);
@@ -222,7 +223,7 @@ fn flag_or_false(tree: &Value, key: &str) -> bool
 /// A bcb item.
 #[tactic(auto, unfolding(crate::specs::PlanText::bcb_at))]
 fn read_bcb(alloc: Global, tree: &Value) -> Result<Item, FieldFault>
-    ensures { GivesField (λ item. item) result (bcb_at (view tree.now)) }
+    ensures { Gives IsFieldFault (λ item. item) result (bcb_at (view tree.now)) }
 {
     if !is_bcb_shape(tree) {
         return Err(FieldFault::WrongShape);
@@ -254,7 +255,7 @@ fn is_split_shape(tree: &Value) -> bool
 /// A split item.
 #[tactic(auto, unfolding(crate::specs::PlanText::split_at))]
 fn read_split(alloc: Global, tree: &Value) -> Result<Item, FieldFault>
-    ensures { GivesField (λ item. item) result (split_at (view tree.now)) }
+    ensures { Gives IsFieldFault (λ item. item) result (split_at (view tree.now)) }
 {
     if !is_split_shape(tree) {
         return Err(FieldFault::WrongShape);

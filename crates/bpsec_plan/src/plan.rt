@@ -1,8 +1,9 @@
 //! Plans.
 
 ghost use Rattle.std.specs.Prelude.{◌≡◌, IsTrue};
+ghost use Rattle.cbor_profile.specs.Step.{Gives};
 ghost use Rattle.serde_json.specs.View.{view};
-ghost use Rattle.bp_text.specs.Fault.{Gives};
+ghost use Rattle.bp_text.specs.Fault.{IsTextError};
 ghost use Rattle.bpsec_plan.specs.Items.{is_plan};
 ghost use Rattle.bpsec_plan.specs.PlanText.{is_plan_shape, plan_at, plan_of};
 
@@ -48,7 +49,7 @@ fn is_plan_shape(tree: &Value) -> bool
 /// The items of a plan's tree.
 #[tactic(auto, unfolding(crate::specs::PlanText::plan_at))]
 fn items_of(alloc: Global, tree: &Value) -> Result<List<Item>, TextError>
-    ensures { Gives (λ items. items) result (plan_at (view tree.now)) }
+    ensures { Gives IsTextError (λ items. items) result (plan_at (view tree.now)) }
 {
     match version_field(tree, &[1]) {
         Ok(_) => {}
@@ -86,7 +87,7 @@ impl Plan {
 
     /// The plan whose text this is, or the first fault.
     pub fn from_json(alloc: Global, bytes: &[u8]) -> Result<Plan, TextError>
-        ensures { Gives (λ plan. plan) result (plan_of bytes.now) }
+        ensures { Gives IsTextError (λ plan. plan) result (plan_of bytes.now) }
     {
         laws::names_stand_once::<Item>();
         laws::entries_are_alike::<Item>();

@@ -4,6 +4,7 @@ use Rattle.std.specs.Prelude.{nat_le, codes, is_some, unwrap_or, option_map, opt
 use Rattle.std.specs.List.{list_all}
 use Rattle.std.specs.Str.{bytes_eq}
 use Rattle.std.proofs.lemmas.Slice.Eq.{bytes_eq-Decides}
+use Rattle.cbor_profile.specs.Step.{◌>>=◌}
 use Rattle.serde_json.specs.Data.{Data}
 use Rattle.serde_json.specs.Find.{get, as_str, as_number, as_u64}
 use Rattle.bp_eid.specs.declared.eid.Eid.{Eid}
@@ -11,7 +12,7 @@ use Rattle.bp_text.specs.declared.fault.TextReason.{TextReason}
 use Rattle.bp_text.specs.declared.fault.TextReason.TheVariants.{WrongShape, UnknownWord}
 use Rattle.bp_text.specs.declared.fault.TextFault.{TextFault}
 use Rattle.bp_text.specs.declared.shape.Kind.TheVariants.{Text, Name, Number, Signed}
-use Rattle.bp_text.specs.Fault.{◌>>=◌, unless, wanted, top}
+use Rattle.bp_text.specs.Fault.{unless, wanted, top}
 use Rattle.bp_text.specs.Tree.{text_at, list_at, values_of, number_at}
 use Rattle.bp_text.specs.Shape.{has, has_only, may_have, is_of, passes, whole, is_name}
 use Rattle.bp_text.specs.Field.{bytes_at, eid_at, word_at, optional}

@@ -1,6 +1,7 @@
 -- Steps that gave a value, and the fields that they read.
 use Rattle.std.proofs.Common.{◌≡◌, ℕ, Bool, true, false, ◌&&◌, cond, List, length, Option, Some, None, Result, Ok, Err, refl, subst}
 use Rattle.std.specs.Prelude.{nat_le, option_and_then}
+use Rattle.cbor_profile.specs.Step.{◌>>=◌}
 use Rattle.hex.specs.Hex.{decode_of}
 use Rattle.hex.specs.declared.error.FromHexError.{FromHexError}
 use Rattle.serde_json.specs.Data.{Data}
@@ -8,7 +9,7 @@ use Rattle.serde_json.specs.Find.{get, as_str}
 use Rattle.bp_text.specs.declared.fault.TextReason.{TextReason}
 use Rattle.bp_text.specs.declared.fault.TextReason.TheVariants.{WrongShape, BadHex}
 use Rattle.bp_text.specs.declared.shape.Kind.TheVariants.{Name}
-use Rattle.bp_text.specs.Fault.{◌>>=◌, unless, wanted, at_entry}
+use Rattle.bp_text.specs.Fault.{unless, wanted, at_entry}
 use Rattle.bp_text.specs.Tree.{text_at}
 use Rattle.bp_text.specs.Shape.{is_of, has, is_name, passes}
 use Rattle.bp_text.specs.Field.{hex_at, within}

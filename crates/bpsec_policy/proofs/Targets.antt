@@ -2,9 +2,9 @@
 use Rattle.std.proofs.Common.{◌≡◌, ℕ, ◌+◌, ◌<◌, ◌≤◌, List, [], ◌∷◌, ◌++◌, map, length, get_or, drop, Result, Ok, Err, refl, sym, ◌∙◌, ap, append_assoc, add-one, arith}
 use Rattle.std.proofs.Math.Seq.{drop-cons}
 use Rattle.std.proofs.lemmas.List.{length-map, get_or-map, append-nil, at_drop_all}
+use Rattle.cbor_profile.specs.Step.{◌>>=◌}
 use Rattle.serde_json.specs.Data.{Data}
 use Rattle.bp_text.specs.declared.fault.TextReason.{TextReason}
-use Rattle.bp_text.specs.Fault.{◌>>=◌}
 use Rattle.bpsec_policy.specs.declared.rule.TargetKind.{TargetKind}
 use Rattle.bpsec_policy.specs.RuleText.{target_of, targets_of}
 

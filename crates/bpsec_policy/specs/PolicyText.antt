@@ -1,13 +1,14 @@
 -- The text of a policy: `version` (1 or 2), `node` (id), `broken` (action), `default` (an object), `rules` (0 to 256),
 -- `required` (0 to 64). Requirements count on after the rules, and their names differ from the rules' too.
 use Rattle.std.specs.Prelude.{ℕ, ◌&&◌, Bool, List, [], ◌∷◌, length, codes, Result, Ok}
+use Rattle.cbor_profile.specs.Step.{◌>>=◌}
 use Rattle.serde_json.specs.Data.{Data}
 use Rattle.serde_json.specs.Find.{get}
 use Rattle.bp_text.specs.declared.fault.TextReason.{TextReason}
 use Rattle.bp_text.specs.declared.fault.TextReason.TheVariants.{WrongShape, TooMany}
 use Rattle.bp_text.specs.declared.fault.TextFault.{TextFault}
 use Rattle.bp_text.specs.declared.shape.Kind.TheVariants.{Text, Object, Array}
-use Rattle.bp_text.specs.Fault.{◌>>=◌, unless, wanted, top}
+use Rattle.bp_text.specs.Fault.{unless, wanted, top}
 use Rattle.bp_text.specs.Tree.{tree_of, list_at}
 use Rattle.bp_text.specs.Shape.{has, has_only}
 use Rattle.bp_text.specs.Field.{eid_at, word_at}

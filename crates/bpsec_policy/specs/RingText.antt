@@ -1,11 +1,12 @@
 -- The text of a key ring: `version` (1), `keys` (0 to 256). Each key has `name` and `key` (hexadecimal, 16 to 64 bytes).
 use Rattle.std.specs.Prelude.{ℕ, Bool, ◌&&◌, List, [], ◌∷◌, codes, Result, Ok}
+use Rattle.cbor_profile.specs.Step.{◌>>=◌}
 use Rattle.serde_json.specs.Data.{Data}
 use Rattle.bp_text.specs.declared.fault.TextReason.{TextReason}
 use Rattle.bp_text.specs.declared.fault.TextReason.TheVariants.{WrongShape, TooMany}
 use Rattle.bp_text.specs.declared.fault.TextFault.{TextFault}
 use Rattle.bp_text.specs.declared.shape.Kind.TheVariants.{Text, Name, Array}
-use Rattle.bp_text.specs.Fault.{◌>>=◌, unless, wanted, top}
+use Rattle.bp_text.specs.Fault.{unless, wanted, top}
 use Rattle.bp_text.specs.Tree.{tree_of, list_at}
 use Rattle.bp_text.specs.Shape.{has, has_only}
 use Rattle.bp_text.specs.Field.{bytes_at, hex_at}

@@ -2,13 +2,14 @@
 use Rattle.std.specs.Prelude.{ℕ, ◌==◌, ◌&&◌, ◌||◌, Bool, true, false, not, nat_le, if◌then◌else◌, List, [], ◌∷◌, length, codes, is_some, option_map, unwrap_or, Option, Some, None, Result, Ok, Err}
 use Rattle.std.specs.List.{list_all}
 use Rattle.std.specs.Str.{bytes_eq}
+use Rattle.cbor_profile.specs.Step.{◌>>=◌}
 use Rattle.serde_json.specs.Data.{Data}
 use Rattle.serde_json.specs.Find.{get, as_str}
 use Rattle.bp_eid.specs.declared.eid.Eid.{Eid}
 use Rattle.bp_text.specs.declared.fault.TextReason.{TextReason}
 use Rattle.bp_text.specs.declared.fault.TextReason.TheVariants.{WrongShape, UnknownWord}
 use Rattle.bp_text.specs.declared.shape.Kind.TheVariants.{Text, Name, Number, Signed}
-use Rattle.bp_text.specs.Fault.{◌>>=◌, unless, wanted}
+use Rattle.bp_text.specs.Fault.{unless, wanted}
 use Rattle.bp_text.specs.Tree.{values_of, number_at, signed_at, list_at}
 use Rattle.bp_text.specs.Shape.{has, has_only, may_have, passes, whole}
 use Rattle.bp_text.specs.Field.{bytes_at, eid_at, word_at, optional}

@@ -1,8 +1,9 @@
 //! Reading rules and requirements from the trees of their texts.
 
 ghost use Rattle.std.specs.Prelude.{◌≡◌};
+ghost use Rattle.cbor_profile.specs.Step.{Gives};
 ghost use Rattle.serde_json.specs.View.{view};
-ghost use Rattle.bp_text.specs.Fault.{GivesField};
+ghost use Rattle.bp_text.specs.Fault.{IsFieldFault};
 ghost use Rattle.bpsec_policy.specs.RuleText.{is_acting_shape, acting_at, is_default_shape, default_at, are_patterns_shape, is_rule_shape, patterns_at, rule_at, is_requirement_shape, requirement_at, is_target, are_targets, is_plain_target, may_pass, rule_keys, either_at, are_sources, may_have_targets, sources_at};
 ghost use Rattle.serde_json.specs.Find.{get};
 ghost use Rattle.bp_text.specs.Shape.{has_only, passes};
@@ -38,7 +39,7 @@ fn acting(
     least_scope: Option<u64>,
     tree: &Value,
 ) -> Result<Rule, FieldFault>
-    ensures { GivesField (λ rule. rule) result (acting_at name least_scope (view tree.now)) }
+    ensures { Gives IsFieldFault (λ rule. rule) result (acting_at name least_scope (view tree.now)) }
 {
     let role = Field::read(alloc, tree, "role")?;
     let failed = Field::read(alloc, tree, "failed")?;
@@ -65,7 +66,7 @@ fn is_default_shape(tree: &Value) -> bool
 /// The default rule.
 #[tactic(auto, unfolding(crate::specs::RuleText::default_at))]
 pub(crate) fn read_default(alloc: Global, tree: &Value) -> Result<Rule, FieldFault>
-    ensures { GivesField (λ rule. rule) result (default_at (view tree.now)) }
+    ensures { Gives IsFieldFault (λ rule. rule) result (default_at (view tree.now)) }
 {
     if !is_default_shape(tree) {
         return Err(FieldFault::WrongShape);
@@ -168,7 +169,7 @@ fn is_rule_shape(version: u64, tree: &Value) -> bool
 
 /// The target of version 1, else the targets of version 2.
 fn read_targets(alloc: Global, tree: &Value) -> Result<Option<List<TargetKind>>, FieldFault>
-    ensures { GivesField (λ kinds. kinds) result (either_at (view tree.now)) }
+    ensures { Gives IsFieldFault (λ kinds. kinds) result (either_at (view tree.now)) }
 {
     if tree.get("target").is_none() {
         return optional_targets(alloc, tree, "targets");
@@ -182,7 +183,7 @@ fn read_targets(alloc: Global, tree: &Value) -> Result<Option<List<TargetKind>>,
 
 /// The patterns of the security source.
 fn read_sources(alloc: Global, tree: &Value) -> Result<(Option<Eid>, Option<Eid>), FieldFault>
-    ensures { GivesField (λ sources. sources) result (sources_at (view tree.now)) }
+    ensures { Gives IsFieldFault (λ sources. sources) result (sources_at (view tree.now)) }
 {
     let source = optional(alloc, tree, "source")?;
     let source_node = optional(alloc, tree, "source_node")?;
@@ -192,7 +193,7 @@ fn read_sources(alloc: Global, tree: &Value) -> Result<(Option<Eid>, Option<Eid>
 /// The patterns of a rule.
 #[tactic(auto, unfolding(crate::specs::RuleText::patterns_at))]
 fn read_patterns(alloc: Global, tree: &Value) -> Result<Patterns, FieldFault>
-    ensures { GivesField (λ patterns. patterns) result (patterns_at (view tree.now)) }
+    ensures { Gives IsFieldFault (λ patterns. patterns) result (patterns_at (view tree.now)) }
 {
     let service = optional_service(tree, "service")?;
     let (source, source_node) = read_sources(alloc, tree)?;

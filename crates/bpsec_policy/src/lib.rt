@@ -14,10 +14,3 @@ mod written;
 pub use policy::{Policy, REQUIREMENT_LIMIT, RULE_LIMIT};
 pub use ring::{KEY_LIMIT, KeyRing, NamedKey};
 pub use rule::{Action, Patterns, Requirement, Role, Rule, RuleAt, TargetKind};
-
-#[cfg(test)]
-mod ring_tests;
-#[cfg(test)]
-mod rule_tests;
-#[cfg(test)]
-mod tests;

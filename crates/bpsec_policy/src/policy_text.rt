@@ -1,8 +1,9 @@
 //! The text of a policy.
 
 ghost use Rattle.std.specs.Prelude.{◌≡◌, ◌&&◌, codes, IfOk, IfErr};
+ghost use Rattle.cbor_profile.specs.Step.{Gives};
 ghost use Rattle.serde_json.specs.View.{view};
-ghost use Rattle.bp_text.specs.Fault.{Gives, GivesField};
+ghost use Rattle.bp_text.specs.Fault.{IsFieldFault, IsTextError};
 ghost use Rattle.bp_text.specs.Names.{AreKnown};
 ghost use Rattle.bp_text.specs.Top.{is_short};
 ghost use Rattle.bpsec_policy.specs.Policy.{reserved};
@@ -68,7 +69,7 @@ fn are_short(tree: &Value) -> bool
 /// The top's own fields: node, action for broken blocks, default rule.
 #[tactic(auto, unfolding(crate::specs::PolicyText::head_at))]
 fn read_head(alloc: Global, tree: &Value) -> Result<(Eid, Action, Rule), FieldFault>
-    ensures { GivesField (λ head. head) result (head_at (view tree.now)) }
+    ensures { Gives IsFieldFault (λ head. head) result (head_at (view tree.now)) }
 {
     let node = eid_field(alloc, tree, "node")?;
     let broken = Action::read(alloc, tree, "broken")?;
@@ -97,7 +98,7 @@ fn read_lists(
     version: u64,
     tree: &Value,
 ) -> Result<(List<RuleAt>, List<Requirement>), TextError>
-    ensures { Gives (λ lists. lists) result (lists_at version (view tree.now)) }
+    ensures { Gives IsTextError (λ lists. lists) result (lists_at version (view tree.now)) }
 {
     let Some(rules) = list_field(tree, "rules") else {
         return Err(refused(TextReason::WrongShape));
@@ -116,7 +117,7 @@ impl Policy {
     /// The policy of a tree.
     #[tactic(auto, unfolding(crate::specs::PolicyText::policy_at))]
     fn of_tree(alloc: Global, tree: &Value) -> Result<Policy, TextError>
-        ensures { Gives (λ policy. policy) result (policy_at (view tree.now)) }
+        ensures { Gives IsTextError (λ policy. policy) result (policy_at (view tree.now)) }
     {
         laws::names_stand_once::<RuleAt>();
         laws::names_stand_once::<Requirement>();
@@ -139,7 +140,7 @@ impl Policy {
 
     /// The policy whose text this is, of version 1 or 2, or the first fault.
     pub fn from_json(alloc: Global, bytes: &[u8]) -> Result<Policy, TextError>
-        ensures { Gives (λ policy. policy) result (policy_of bytes.now) }
+        ensures { Gives IsTextError (λ policy. policy) result (policy_of bytes.now) }
     {
         let tree = read_tree(alloc, bytes)?;
         Policy::of_tree(alloc, &tree)

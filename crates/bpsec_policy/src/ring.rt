@@ -2,8 +2,9 @@
 
 ghost use Rattle.std.specs.Prelude.{◌≡◌, ◌∷◌, [], codes, IsTrue, IfOk, option_map};
 ghost use Rattle.std.specs.Str.{bytes_eq};
+ghost use Rattle.cbor_profile.specs.Step.{Gives};
 ghost use Rattle.serde_json.specs.View.{view};
-ghost use Rattle.bp_text.specs.Fault.{Gives, GivesField};
+ghost use Rattle.bp_text.specs.Fault.{IsTextError};
 ghost use Rattle.bpsec_policy.specs.Ring.{is_ring, key_of};
 ghost use Rattle.bpsec_policy.specs.RingText.{is_key_shape, key_at, is_ring_shape, ring_at, ring_of};
 
@@ -84,7 +85,7 @@ fn is_ring_shape(tree: &Value) -> bool
 /// The keys of a ring's tree.
 #[tactic(auto, unfolding(crate::specs::RingText::ring_at))]
 fn keys_of(alloc: Global, tree: &Value) -> Result<List<NamedKey>, TextError>
-    ensures { Gives (λ keys. keys) result (ring_at (view tree.now)) }
+    ensures { Gives IsTextError (λ keys. keys) result (ring_at (view tree.now)) }
 {
     match version_field(tree, &[1]) {
         Ok(_) => {}
@@ -132,7 +133,7 @@ impl KeyRing {
 
     /// The ring whose text this is, or the first fault.
     pub fn from_json(alloc: Global, bytes: &[u8]) -> Result<KeyRing, TextError>
-        ensures { Gives (λ ring. ring) result (ring_of bytes.now) }
+        ensures { Gives IsTextError (λ ring. ring) result (ring_of bytes.now) }
     {
         laws::names_stand_once::<NamedKey>();
         laws::entries_are_alike::<NamedKey>();

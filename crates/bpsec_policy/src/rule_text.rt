@@ -2,8 +2,9 @@
 
 ghost use Rattle.std.specs.Prelude.{◌≡◌, map};
 ghost use Rattle.std.specs.List.{list_all};
+ghost use Rattle.cbor_profile.specs.Step.{Gives};
 ghost use Rattle.serde_json.specs.View.{view};
-ghost use Rattle.bp_text.specs.Fault.{GivesField};
+ghost use Rattle.bp_text.specs.Fault.{IsFieldFault};
 ghost use Rattle.bp_text.specs.Field.{word_at, optional};
 ghost use Rattle.bpsec_policy.specs.Words.{role_of, action_of, service_of};
 ghost use Rattle.bpsec_policy.specs.RuleText.{is_target, is_plain_target, are_targets, target_of, target_at, targets_of, targets_at};
@@ -47,7 +48,7 @@ impl Field for Action {
 
 /// The service at a key.
 pub(crate) fn service_field(tree: &Value, key: &str) -> Result<Service, FieldFault>
-    ensures { GivesField (λ service. service) result (word_at service_of key.now (view tree.now)) }
+    ensures { Gives IsFieldFault (λ service. service) result (word_at service_of key.now (view tree.now)) }
 {
     match word_field(tree, key) {
         Some("bib") => Ok(Service::Bib),
@@ -60,7 +61,7 @@ pub(crate) fn service_field(tree: &Value, key: &str) -> Result<Service, FieldFau
 /// The service at a key, if the tree has the key.
 #[tactic(auto, unfolding(bp_text::specs::Field::optional))]
 pub(crate) fn optional_service(tree: &Value, key: &str) -> Result<Option<Service>, FieldFault>
-    ensures { GivesField (λ service. service) result (optional (word_at service_of) key.now (view tree.now)) }
+    ensures { Gives IsFieldFault (λ service. service) result (optional (word_at service_of) key.now (view tree.now)) }
 {
     if tree.get(key).is_none() {
         return Ok(None);
@@ -109,7 +110,7 @@ pub(crate) fn are_targets(value: &Value) -> bool
 
 /// The kind of target that a value names.
 fn target_of(value: &Value) -> Result<TargetKind, FieldFault>
-    ensures { GivesField (λ kind. kind) result (target_of (view value.now)) }
+    ensures { Gives IsFieldFault (λ kind. kind) result (target_of (view value.now)) }
 {
     if let Some(number) = value.as_u64() {
         return Ok(TargetKind::Kind(number));
@@ -134,7 +135,7 @@ impl Field for TargetKind {
 
 /// The kinds of target that the values name.
 fn targets_of(alloc: Global, values: &[Value]) -> Result<List<TargetKind>, FieldFault>
-    ensures { GivesField (λ kinds. kinds) result (targets_of (map view values.now)) }
+    ensures { Gives IsFieldFault (λ kinds. kinds) result (targets_of (map view values.now)) }
 {
     let mut kinds = List::new(alloc);
     for value in values {
@@ -156,7 +157,7 @@ pub(crate) fn optional_targets(
     tree: &Value,
     key: &str,
 ) -> Result<Option<List<TargetKind>>, FieldFault>
-    ensures { GivesField (λ kinds. kinds) result (optional targets_at key.now (view tree.now)) }
+    ensures { Gives IsFieldFault (λ kinds. kinds) result (optional targets_at key.now (view tree.now)) }
 {
     if tree.get(key).is_none() {
         return Ok(None);

@@ -8,7 +8,7 @@ use Rattle.cbor_profile.specs.Head as heads
 use Rattle.cbor_profile.specs.Put.{uint, byte_string, array_head}
 use Rattle.bp_primary.specs.declared.primary.Primary.{Primary}
 use Rattle.bp_primary.specs.Spelling.{IsPrimary, spelling}
-use Rattle.bpsec_scope.proofs.Lengths.{head_is_short}
+use Rattle.cbor_profile.proofs.Sizes.{head_at_least}
 
 -- the laws of heads and of primary blocks
 abbrev pub HeadsHaveOneSpelling : Type 0
@@ -121,10 +121,10 @@ some_bytes : Laws → (i : Item) (x : List ℕ) → FitsItem i → spelled i ++ 
 unfolding Begins
 some_bytes laws i x fits e =
     let parts = begins laws i fits in
-    let head = head_is_short (major_of i) parts.0 in
+    let head = head_at_least (major_of i) parts.0 in
     let size = ap length (ap (λ bytes. bytes ++ x) (sym parts.3) ∙ e) in
     let counted = simp length-append at size in
-    omega (arith, head.0)
+    omega (arith, head)
 
 pub one_list : Laws → (is js : List Item) → FitAll is → FitAll js → spelled_all is ≡ spelled_all js → is ≡ js
 one_list laws [] [] fit fit' e = refl

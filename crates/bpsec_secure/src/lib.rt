@@ -21,6 +21,3 @@ mod targets;
 
 pub use reason::{PlanFault, PlanReason, Refusal};
 pub use securing::secure;
-
-#[cfg(test)]
-mod tests;

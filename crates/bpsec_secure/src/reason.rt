@@ -56,6 +56,6 @@ pub enum PlanFault {
     /// The first reason that holds, with the least index of an item for which it does; for `Unreadable` the least number
     /// of a block, and for `IsFragment`, `TooManyBlocks` and `TooLong` none.
     Refused { reason: PlanReason, at: Option<u64> },
-    /// Memory ran out.
+    /// No memory was left.
     NoMemory,
 }

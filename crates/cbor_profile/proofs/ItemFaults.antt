@@ -9,7 +9,8 @@ use Rattle.cbor_profile.specs.declared.item.ItemFault.{ItemFault}
 use Rattle.cbor_profile.specs.declared.item.ItemFault.TheVariants.{Short, NotShortest, Bad, Deep}
 use Rattle.cbor_profile.specs.declared.item.ItemRead.TheVariants as items
 use Rattle.cbor_profile.specs.Head.{following, argument, least, is_bad, read_head}
-use Rattle.cbor_profile.specs.Item.{Following, Nothing, Text, Items, following_head, ◌>>=◌, head_from, each_from, headed_from, content_from, item_from, most_levels, answer, read_item}
+use Rattle.cbor_profile.specs.Item.{Following, Nothing, Text, Items, following_head, head_from, each_from, headed_from, content_from, item_from, most_levels, answer, read_item}
+use Rattle.cbor_profile.specs.Step.{◌>>=◌}
 use Rattle.cbor_profile.proofs.Heads.{passed}
 use Rattle.cbor_profile.proofs.HeadFaults.{answer_stands}
 

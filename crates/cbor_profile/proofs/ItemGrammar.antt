@@ -8,8 +8,9 @@ use Rattle.cbor_profile.specs.declared.head.HeadRead.TheVariants as heads
 use Rattle.cbor_profile.specs.declared.item.ItemFault.{ItemFault}
 use Rattle.cbor_profile.specs.declared.item.ItemFault.TheVariants.{Short, NotShortest, Bad, Deep}
 use Rattle.cbor_profile.specs.Head.{IsHead, spelling, read_head}
-use Rattle.cbor_profile.specs.Item.{Following, Nothing, Text, Items, following_head, Sequence, Headed, IsContent, IsItem, ◌>>=◌, after_head, head_from, each_from, headed_from, content_from, item_from, most_levels, answer, read_item}
+use Rattle.cbor_profile.specs.Item.{Following, Nothing, Text, Items, following_head, Sequence, Headed, IsContent, IsItem, after_head, head_from, each_from, headed_from, content_from, item_from, most_levels, answer, read_item}
 use Rattle.cbor_profile.specs.ItemAnswer.{IfWholeItem}
+use Rattle.cbor_profile.specs.Step.{◌>>=◌}
 use Rattle.cbor_profile.specs.declared.item.ItemRead.{ItemRead}
 use Rattle.cbor_profile.specs.declared.item.ItemRead.TheVariants as items
 use Rattle.cbor_profile.proofs.Wide.{IsBytes, IsBytes-drop}

@@ -1,7 +1,8 @@
 -- Reading items one after the other.
 use Rattle.std.proofs.Common.{◌≡◌, ℕ, zero, suc, ◌+◌, ◌*◌, ◌-◌, ◌<◌, ◌≤◌, List, Result, Ok, Err, refl, sym, ◌∙◌, arith}
 use Rattle.cbor_profile.specs.declared.item.ItemFault.{ItemFault}
-use Rattle.cbor_profile.specs.Item.{◌>>=◌, Items, item_from, each_from, content_from}
+use Rattle.cbor_profile.specs.Item.{Items, item_from, each_from, content_from}
+use Rattle.cbor_profile.specs.Step.{◌>>=◌}
 
 pub nested : (levels each argument : ℕ) (bytes : List ℕ) → 0 < levels → content_from levels (Items each) argument bytes ≡ each_from (item_from (levels - 1)) (each * argument) bytes
 unfolding content_from

@@ -5,3 +5,4 @@ pub mod Items
 mod Tokens
 pub mod ItemGrammar
 pub mod ItemFaults
+pub mod Sizes

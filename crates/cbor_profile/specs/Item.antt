@@ -9,6 +9,7 @@ use Rattle.cbor_profile.specs.declared.item.ItemFault.TheVariants.{Short, NotSho
 use Rattle.cbor_profile.specs.declared.item.ItemRead.{ItemRead}
 use Rattle.cbor_profile.specs.declared.item.ItemRead.TheVariants as items
 use Rattle.cbor_profile.specs.Head.{IsHead, spelling, read_head}
+use Rattle.cbor_profile.specs.Step.{◌>>=◌}
 
 -- What follows a head: nothing, as many bytes as its argument says, or for each one that the argument counts this
 -- many items.
@@ -52,11 +53,6 @@ abbrev pub most_levels : ℕ
 most_levels = 8
 
 -- ---- the first fault from the left
-
-infixl 10 ◌>>=◌
-abbrev pub ◌>>=◌ : {A B : Type 0} → Result A ItemFault → (A → Result B ItemFault) → Result B ItemFault
-(Ok x) >>= f = f x
-(Err e) >>= f = Err e
 
 -- a head and the bytes after it
 abbrev pub after_head : List ℕ → HeadRead → Result (Head × List ℕ) ItemFault

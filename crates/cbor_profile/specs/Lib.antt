@@ -3,6 +3,7 @@ pub mod Overwritten
 pub mod Head
 pub mod HeadAnswer
 pub mod Put
+pub mod Step
 pub mod Item
 pub mod ItemAnswer
 pub mod Token

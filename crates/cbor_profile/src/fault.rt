@@ -58,7 +58,9 @@ pub struct Fault {
 /// Why spelled bytes weren't read.
 #[derive(Clone, Copy, Debug, PartialEq, Eq)]
 pub enum SpellError {
+    /// The bytes aren't what was to be read: this is their first fault.
     Fault(Fault),
+    /// No memory was left.
     NoMemory,
 }
 

@@ -3,7 +3,8 @@
 
 ghost use Rattle.std.specs.Prelude.{◌≡◌, ◌≤◌, ◌++◌, ℕ, nat_lt, if◌then◌else◌, List, length, take, drop, Ok, Err, IfOk};
 ghost use Rattle.cbor_profile.specs.Item.{IsItem, most_levels, head_from, following_head, content_from, headed_from, each_from, item_from, read_item};
-ghost use Rattle.cbor_profile.specs.ItemAnswer.{Gives, IfWholeItem};
+ghost use Rattle.cbor_profile.specs.ItemAnswer.{IfWholeItem};
+ghost use Rattle.cbor_profile.specs.Step.{Stands};
 ghost use Rattle.cbor_profile.specs.declared.item.ItemRead.TheVariants.{Whole};
 
 use crate::head::{Head, HeadRead, head_at};
@@ -39,7 +40,7 @@ const LEVELS: u8 = 8;
 #[tactic(auto, unfolding(crate::specs::Item::head_from))]
 fn head(bytes: &[u8]) -> Result<(Head, &[u8]), ItemFault>
     ensures shorter { IfOk result (λ x. length x.1.now ≤ length bytes.now) }
-    ensures exact { Gives (λ x. (x.0, x.1.now)) result (head_from bytes.now) }
+    ensures exact { Stands (λ x. (x.0, x.1.now)) result (head_from bytes.now) }
 {
     match head_at(bytes) {
         HeadRead::Whole { head, len } => Ok((head, &bytes[len..])),
@@ -52,7 +53,7 @@ fn head(bytes: &[u8]) -> Result<(Head, &[u8]), ItemFault>
 /// What a string of this many bytes leaves.
 fn skip(len: u64, bytes: &[u8]) -> Result<&[u8], ItemFault>
     ensures shorter { IfOk result (λ rest. length rest.now ≤ length bytes.now) }
-    ensures exact { Gives (λ x. x.now) result (if nat_lt (length bytes.now) len then Err ItemFault.Short else Ok (drop len bytes.now)) }
+    ensures exact { Stands (λ x. x.now) result (if nat_lt (length bytes.now) len then Err ItemFault.Short else Ok (drop len bytes.now)) }
 {
     if (bytes.len() as u64) < len {
         return Err(ItemFault::Short);
@@ -65,7 +66,7 @@ fn skip(len: u64, bytes: &[u8]) -> Result<&[u8], ItemFault>
 #[tactic(auto, unfolding(crate::specs::Item::head_from))]
 fn item(levels: u8, bytes: &[u8]) -> Result<&[u8], ItemFault>
     ensures shorter { IfOk result (λ rest. length rest.now ≤ length bytes.now) }
-    ensures exact { Gives (λ x. x.now) result (item_from levels bytes.now) }
+    ensures exact { Stands (λ x. x.now) result (item_from levels bytes.now) }
 {
     let (head, rest) = head(bytes)?;
     content(levels, head, rest)
@@ -76,7 +77,7 @@ fn item(levels: u8, bytes: &[u8]) -> Result<&[u8], ItemFault>
 #[tactic(auto, unfolding(crate::specs::Item::content_from))]
 fn content(levels: u8, head: Head, bytes: &[u8]) -> Result<&[u8], ItemFault>
     ensures shorter { IfOk result (λ rest. length rest.now ≤ length bytes.now) }
-    ensures exact { Gives (λ x. x.now) result (content_from levels (following_head head.major) head.value bytes.now) }
+    ensures exact { Stands (λ x. x.now) result (content_from levels (following_head head.major) head.value bytes.now) }
 {
     match head.major {
         2 | 3 => skip(head.value, bytes),
@@ -94,7 +95,7 @@ fn content(levels: u8, head: Head, bytes: &[u8]) -> Result<&[u8], ItemFault>
 #[cycle(item)]
 fn items(levels: u8, count: u64, bytes: &[u8]) -> Result<&[u8], ItemFault>
     ensures shorter { IfOk result (λ rest. length rest.now ≤ length bytes.now) }
-    ensures exact { Gives (λ x. x.now) result (each_from (item_from levels) count bytes.now) }
+    ensures exact { Stands (λ x. x.now) result (each_from (item_from levels) count bytes.now) }
 {
     let mut rest = bytes;
     for _ in 0..count {

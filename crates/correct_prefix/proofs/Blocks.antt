@@ -6,6 +6,7 @@ use Rattle.std.specs.Option.{ForSome}
 use Rattle.std.proofs.lemmas.Int.{ints}
 use Rattle.cbor_profile.specs.Head.{head_spelling}
 use Rattle.cbor_profile.specs.Put.{uint, int}
+use Rattle.cbor_profile.specs.Step.{◌>>=◌}
 use Rattle.cbor_profile.specs.declared.fault.Reason.{Reason}
 use Rattle.cbor_profile.specs.declared.fault.Reason.TheVariants as reasons
 use Rattle.bp_eid.specs.declared.eid.Eid.{Eid}
@@ -13,7 +14,7 @@ use Rattle.bp_eid.specs.declared.eid.Eid.TheVariants.{Null}
 use Rattle.bp_eid.specs.declared.stop.Stop.{Stop}
 use Rattle.bp_eid.specs.EndpointId as ids
 use Rattle.bp_eid.specs.Prefix.{Begins, IsId, before_stop}
-use Rattle.bp_eid.specs.Reading.{◌>>=◌, number_at, id_at}
+use Rattle.bp_eid.specs.Reading.{number_at, id_at}
 use Rattle.bp_eid.proofs.Tokens.{number_again, number_means}
 use Rattle.bp_eid.proofs.Ids.{id_means, id_again}
 use Rattle.bp_bundle.proofs.Arguments.{IsBytes}

@@ -10,8 +10,9 @@ use Rattle.cbor_profile.specs.declared.fault.Reason.TheVariants as reasons
 use Rattle.cbor_profile.specs.Head.{head_spelling}
 use Rattle.cbor_profile.specs.Item.{IsItem, most_levels}
 use Rattle.cbor_profile.specs.Put.{uint, int, array_head}
+use Rattle.cbor_profile.specs.Step.{◌>>=◌}
 use Rattle.bp_eid.specs.declared.stop.Stop.{Stop}
-use Rattle.bp_eid.specs.Reading.{◌>>=◌, stops, head_at, pair_at, number_at}
+use Rattle.bp_eid.specs.Reading.{stops, head_at, pair_at, number_at}
 use Rattle.bp_eid.proofs.Tokens.{pair_again, pair_means, number_again, number_means}
 use Rattle.bp_bundle.proofs.Arguments.{IsBytes}
 use Rattle.bp_bundle.proofs.Reached.{Starting, started}

@@ -3,12 +3,13 @@ use Rattle.std.proofs.Common.{◌≡◌, ◌≢◌, ℕ, ◌^◌, ◌<◌, ◌�
 use Rattle.std.proofs.lemmas.Bool.{le-leb}
 use Rattle.cbor_profile.specs.Head.{spelling}
 use Rattle.cbor_profile.specs.Put.{uint, array_head}
+use Rattle.cbor_profile.specs.Step.{◌>>=◌}
 use Rattle.cbor_profile.specs.Token.{token_head}
 use Rattle.cbor_profile.specs.declared.head.Head.{Head}
 use Rattle.cbor_profile.specs.declared.fault.Reason.{Reason}
 use Rattle.cbor_profile.specs.declared.fault.Reason.TheVariants as reasons
 use Rattle.bp_eid.specs.declared.stop.Stop.{Stop}
-use Rattle.bp_eid.specs.Reading.{◌>>=◌, stops, at_token, head_at, pair_at, number_at}
+use Rattle.bp_eid.specs.Reading.{stops, at_token, head_at, pair_at, number_at}
 use Rattle.bp_eid.proofs.Tokens.{head_again}
 use Rattle.bp_bundle.specs.Prefix.{IsWholeHead}
 use Rattle.bp_bundle.proofs.Arguments.{IsBytes}

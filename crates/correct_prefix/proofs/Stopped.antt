@@ -2,11 +2,12 @@
 -- it, or isn't whole.
 use Rattle.std.proofs.Common.{◌≡◌, ◌≢◌, ℕ, ◌/◌, inl, inr, List, [], ◌++◌, length, Result, Ok, Err, refl, sym, ◌∙◌, ap, subst, append_assoc, append-nil}
 use Rattle.cbor_profile.specs.Head.{head_spelling}
+use Rattle.cbor_profile.specs.Step.{◌>>=◌}
 use Rattle.cbor_profile.specs.declared.fault.Reason.{Reason}
 use Rattle.cbor_profile.specs.declared.fault.Reason.TheVariants as reasons
 use Rattle.bp_eid.specs.declared.stop.Stop.{Stop}
 use Rattle.bp_eid.specs.Prefix.{Begins}
-use Rattle.bp_eid.specs.Reading.{◌>>=◌, stops}
+use Rattle.bp_eid.specs.Reading.{stops}
 use Rattle.bp_bundle.specs.Prefix.{IsWholeHead}
 use Rattle.bp_bundle.proofs.Reached.{Some_of}
 use Rattle.bp_bundle.proofs.HeadsReached.{stopped}

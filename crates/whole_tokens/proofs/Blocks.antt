@@ -2,9 +2,10 @@
 use Rattle.std.proofs.Common.{◌≡◌, ℕ, zero, suc, ◌+◌, inl, List, [], ◌∷◌, ◌++◌, length, Result, Ok, Err, refl, ◌∙◌, ap}
 use Rattle.cbor_profile.specs.declared.fault.Fault.{Fault}
 use Rattle.cbor_profile.specs.declared.fault.Reason.TheVariants as reasons
+use Rattle.cbor_profile.specs.Step.{◌>>=◌}
 use Rattle.bp_blocks.specs.declared.block.Block.{Block}
 use Rattle.bp_bundle.specs.Faults.{is_payload}
-use Rattle.bp_bundle.specs.Tokens.{Cursor, ◌>>=◌, stops}
+use Rattle.bp_bundle.specs.Tokens.{Cursor, stops}
 use Rattle.bp_bundle.specs.FirstFault.{after_byte, end_at, check_at, header_at, block_of, block_check, closed_at, blocks_at}
 use Rattle.bp_bundle.proofs.Arguments.{TokenLaws}
 use Rattle.whole_tokens.specs.Tokens.Part.{Octets}

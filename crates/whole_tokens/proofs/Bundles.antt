@@ -3,10 +3,11 @@ use Rattle.std.proofs.Common.{◌≡◌, ◌≢◌, ℕ, ◌+◌, inl, inr, List
 use Rattle.std.proofs.lemmas.List.{length-append, take_at}
 use Rattle.cbor_profile.specs.declared.fault.Fault.{Fault}
 use Rattle.cbor_profile.specs.declared.fault.Reason.TheVariants as reasons
+use Rattle.cbor_profile.specs.Step.{◌>>=◌}
 use Rattle.bp_primary.specs.declared.primary.Primary.{Primary}
 use Rattle.bp_blocks.specs.declared.block.Block.{Block}
 use Rattle.bp_bundle.specs.Shape.{Contents}
-use Rattle.bp_bundle.specs.Tokens.{Cursor, ◌>>=◌, stops}
+use Rattle.bp_bundle.specs.Tokens.{Cursor, stops}
 use Rattle.bp_bundle.specs.FirstFault.{after_byte, begin_at, primary_at, blocks_at, front_at, bundle_at, read_bundle, end_of_input, read_only}
 use Rattle.bp_bundle.proofs.Arguments.{IsBytes, TokenLaws, here}
 use Rattle.bp_bundle.proofs.Reached.{stopped}

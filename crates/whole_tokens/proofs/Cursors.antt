@@ -4,6 +4,7 @@ use Rattle.std.proofs.lemmas.Bool.{eqb-true}
 use Rattle.std.proofs.lemmas.List.{length-append, drop_at}
 use Rattle.cbor_profile.specs.Head.{head_spelling}
 use Rattle.cbor_profile.specs.Put.{uint, byte_string, array_head}
+use Rattle.cbor_profile.specs.Step.{◌>>=◌}
 use Rattle.cbor_profile.specs.declared.fault.Fault.{Fault}
 use Rattle.cbor_profile.specs.declared.fault.Reason.{Reason}
 use Rattle.cbor_profile.specs.declared.fault.Reason.TheVariants as reasons
@@ -11,7 +12,7 @@ use Rattle.bp_eid.specs.declared.eid.Eid.{Eid}
 use Rattle.bp_eid.specs.declared.stop.Stop.{Stop}
 use Rattle.bp_eid.specs.Reading as reading
 use Rattle.bp_blocks.specs.declared.block.Block.{Block}
-use Rattle.bp_bundle.specs.Tokens.{Cursor, place_of, ◌>>=◌, stops, major_of, argument_at}
+use Rattle.bp_bundle.specs.Tokens.{Cursor, place_of, stops, major_of, argument_at}
 use Rattle.bp_bundle.specs.FirstFault.{past, after_byte, content_at, after_id, id_at}
 use Rattle.bp_bundle.proofs.Arguments.{IsBytes, TokenLaws, Took, ReadsArgument, argument_means}
 use Rattle.bp_bundle.proofs.PrimaryMeans.{take_drop_bytes, content_means}

@@ -5,6 +5,7 @@ use Rattle.std.proofs.lemmas.Bool.{ltb-true, ltb-false, eqb-true}
 use Rattle.std.proofs.lemmas.List.{take-append-drop, length-take}
 use Rattle.cbor_profile.specs.Head.{head_spelling, read_head}
 use Rattle.cbor_profile.specs.Put.{uint, text_string, array_head}
+use Rattle.cbor_profile.specs.Step.{◌>>=◌}
 use Rattle.cbor_profile.specs.Token.{token_head}
 use Rattle.cbor_profile.specs.declared.head.Head.{Head}
 use Rattle.cbor_profile.specs.declared.fault.Reason.{Reason}
@@ -13,7 +14,7 @@ use Rattle.bp_eid.specs.declared.eid.Eid.{Eid}
 use Rattle.bp_eid.specs.declared.eid.Eid.TheVariants.{Null, Dtn}
 use Rattle.bp_eid.specs.declared.stop.Stop.{Stop}
 use Rattle.bp_eid.specs.DtnText.{is_dtn_text}
-use Rattle.bp_eid.specs.Reading.{◌>>=◌, stops, at_token, head_at, pair_at, number_at, content_at, dtn_at, ipn_at, id_at}
+use Rattle.bp_eid.specs.Reading.{stops, at_token, head_at, pair_at, number_at, content_at, dtn_at, ipn_at, id_at}
 use Rattle.bp_bundle.proofs.Arguments.{IsBytes, TokenLaws, one_kind}
 use Rattle.bp_bundle.proofs.Reached.{LacksOne, head_unfinished}
 use Rattle.bp_bundle.proofs.HeadsReached.{stopped, Headed, headed, Numbered}

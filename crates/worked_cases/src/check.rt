@@ -1,12 +1,12 @@
 //! `check`.
 
-use crate::inputs::{PLAIN, bundles, first_faults};
-use crate::rows::fields_of;
-use crate::runs::{Given, over_input, run_on};
 use crate::tokens::{RULES, TOKENS};
 use bpsec_command::{Reading, Status, Writing};
 use std::process::Abort;
 use std::test::Fail;
+use worked_runs::inputs::{PLAIN, bundles, first_faults};
+use worked_runs::rows::fields_of;
+use worked_runs::runs::{Given, over_input, run_on};
 
 const CHECK: &[&str; 1] = &["check"];
 
@@ -142,7 +142,7 @@ fn words_that_are_no_line(rt: HostRuntime) -> Result<(), Fail> {
     Ok(())
 }
 
-fn expect(rt: &impl Abort, made: crate::runs::Made, want: (Status, &[u8], &[u8])) {
+fn expect(rt: &impl Abort, made: worked_runs::runs::Made, want: (Status, &[u8], &[u8])) {
     assert_eq!(rt;
         (made.status, made.out.as_slice(), made.report.as_slice()),
         want

@@ -1,11 +1,11 @@
 //! Commands over an input whose reads fail, and over sinks whose writes fail or that have no room left.
 
-use crate::inputs::{CHECKED, PLAIN, bundles, first_faults};
-use crate::runs::{Given, Made, over_input, run_on};
 use bpsec_command::{Reading, Status, Writing};
 use std::alloc::Global;
 use std::process::Abort;
 use std::test::Fail;
+use worked_runs::inputs::{CHECKED, PLAIN, bundles, first_faults};
+use worked_runs::runs::{Given, Made, over_input, run_on};
 
 /// Words that read one bundle.
 const WORDS: [&[&str]; 3] = [&["check"], &["explain"], &["fragment", "--size", "16"]];

@@ -1,14 +1,14 @@
 //! `explain`.
 
 use crate::explained::LINES;
-use crate::inputs::{Input, first_faults};
-use crate::rows::{Row, fields_of};
-use crate::runs::{over_input, run_on};
 use bpsec_command::Status;
 use cbor_profile::{Bytes, NoMemory};
 use std::alloc::Global;
 use std::process::Abort;
 use std::test::Fail;
+use worked_runs::inputs::{Input, first_faults};
+use worked_runs::rows::{Row, fields_of};
+use worked_runs::runs::{over_input, run_on};
 
 const EXPLAIN: &[&str; 1] = &["explain"];
 

@@ -1,15 +1,15 @@
 //! `fragment` and `reassemble`.
 
 use crate::cuts::{CUTS, JOINS, MORE_JOINS};
-use crate::inputs::{PLAIN, first_faults};
 use crate::joins::{ALIKE, LAST};
-use crate::rows::{Case, Row, case_of, fields_of};
-use crate::runs::{Given, Made, over_input, run_on};
 use crate::tokens::{RULES, TOKENS};
 use bpsec_command::{Reading, Status, Writing};
 use std::alloc::Global;
 use std::process::Abort;
 use std::test::Fail;
+use worked_runs::inputs::{PLAIN, first_faults};
+use worked_runs::rows::{Case, Row, case_of, fields_of};
+use worked_runs::runs::{Given, Made, over_input, run_on};
 
 /// The first 16 bytes of the plain bundle's payload.
 const FRAGMENT: &[u8] =

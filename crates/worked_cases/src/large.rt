@@ -1,10 +1,10 @@
 //! Bundles of many bytes.
 
-use crate::inputs::PLAIN;
-use crate::runs::{Given, Made, over_files, over_input, run_on, text_file};
 use std::alloc::Global;
 use std::process::Abort;
 use std::test::Fail;
+use worked_runs::inputs::PLAIN;
+use worked_runs::runs::{Given, Made, over_files, over_input, run_on, text_file};
 
 /// As many bytes as a sink has to have room for.
 const ROOM: usize = 17_000_000;

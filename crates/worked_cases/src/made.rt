@@ -1,6 +1,5 @@
 //! A bundle that is made of its parts, and the operations of one that is read.
 
-use crate::inputs::bundles;
 use crate::large::ordinary;
 use bp_blocks::Block;
 use bp_bundle::{Bundle, Reader};
@@ -11,6 +10,7 @@ use bpsec_asb::{OpId, Service, operations};
 use cbor_profile::{Bytes, List, SpellError};
 use std::alloc::Global;
 use std::test::Fail;
+use worked_runs::inputs::bundles;
 
 fn dtn(alloc: Global, text: &[u8]) -> Result<Eid, Fail> {
     let text = DtnText::of(Bytes::of(text.to_vec(alloc)?));

@@ -1,8 +1,7 @@
-use Rattle.std.proofs.Common.{◌≡◌, ℕ, List, [], ◌∷◌, ◌++◌, length, Result, Ok, Err, refl, ap, sym, subst, ◌∙◌, append-nil}
-use Rattle.cbor_profile.specs.declared.fault.Fault.{Fault}
+use Rattle.std.proofs.Common.{◌≡◌, ℕ, List, [], ◌∷◌, ◌++◌, length, Ok, refl, ap, sym, subst, ◌∙◌, append-nil}
 use Rattle.bp_bundle.specs.Shape.{Contents}
 use Rattle.bp_bundle.specs.Spelling.{Spells, spelling}
-use Rattle.bp_bundle.specs.Tokens.{Cursor, ◌>>=◌}
+use Rattle.bp_bundle.specs.Tokens.{Cursor}
 use Rattle.bp_bundle.specs.FirstFault.{read_bundle, read_only, end_of_input}
 use Rattle.bp_bundle.proofs.Arguments.{bind_ok, ok_is}
 use Rattle.bp_bundle.proofs.laws.inputs_are_read_as_spelled.Goals as goal

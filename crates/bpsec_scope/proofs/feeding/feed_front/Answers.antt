@@ -1,7 +1,7 @@
 use Rattle.std.proofs.Common.{◌%◌, arith, length-append}
 use Rattle.cbor_profile.specs.Feeds.{feeds_both}
 use Rattle.bpsec_scope.specs.Covered.{front, scoped}
-use Rattle.bpsec_scope.proofs.Lengths.{number_is_short}
+use Rattle.cbor_profile.proofs.Sizes.{uint_at_most}
 use Rattle.bpsec_scope.proofs.feeding.feed_front.Goals as goal
 
 pub returns-clause-stands : goal.returns-clause-stands
@@ -16,5 +16,5 @@ returns-clause-stands g c =
 pub returns-clause-short : goal.returns-clause-short
 unfolding front scoped
 returns-clause-short g c =
-    let flags = number_is_short (c.args.scope % 8) in
+    let flags = uint_at_most (c.args.scope % 8) in
     simp length-append (omega (arith, c.feed_primary.ensures.short, c.feed_target_header.ensures.short, c.feed_security_header.ensures.short))

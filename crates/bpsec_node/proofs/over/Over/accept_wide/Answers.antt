@@ -1,7 +1,6 @@
-use Rattle.std.proofs.Common.{◌≡◌, Bool, true, Option, Some, sym, ◌∙◌, ap}
+use Rattle.std.proofs.Common.{◌≡◌, true, Some, sym, ◌∙◌, ap}
 use Rattle.std.specs.Result.{result_ok}
 use Rattle.std.specs.Option.{option_copied}
-use Rattle.bpsec_asb.specs.declared.asb.Asb.{Asb}
 use Rattle.bpsec_policy.specs.declared.rule.Rule.{Rule}
 use Rattle.bpsec_node.specs.Situation.{meaning}
 use Rattle.bpsec_node.specs.Site.{asb_in, is_narrow, parameters_of, rule_over}

@@ -1,8 +1,7 @@
-use Rattle.std.proofs.Common.{◌≡◌, ℕ, ◌%◌, ◌==◌, true, false, List, [], refl, sym, ◌∙◌, ap, subst}
+use Rattle.std.proofs.Common.{◌≡◌, ◌%◌, ◌==◌, true, false, List, [], refl, sym, ◌∙◌, ap, subst}
 use Rattle.bp_primary.specs.declared.primary.Primary.{Primary}
 use Rattle.bp_blocks.specs.declared.block.Block.{Block}
 use Rattle.bpsec_node.specs.Situation.{meaning}
-use Rattle.bpsec_node.specs.Begin.{CanBegin}
 use Rattle.bpsec_node.specs.Least.{is_cipher, read_those, least_broken, double_of}
 use Rattle.bpsec_node.specs.Start.{first_covers, IsStartFault}
 use Rattle.bpsec_node.specs.View.{Progress, situation}
@@ -39,8 +38,8 @@ returns-in-Err-clause-fault g c =
     let whole = subst (λ (p : Primary). p.flags % 2 == 1 ≡ false) c.primary.ensures (not_fragment c.is_fragment.result c.primary.result.now.flags c.is_fragment.ensures.flag c.if-is_fragment.false) in
     fault_is c.args.bundle c.in-Err.fault whole (subst (λ (b : List Block). IsStartFault b c.in-Err.fault) c.blocks-2.ensures c.in-Err.ensures.err)
 
-pub returns-in-Ok-copy-clause-found : goal.returns-in-Ok-copy-clause-found
-returns-in-Ok-copy-clause-found g c =
+pub returns-in-Ok-copy-clause-means : goal.returns-in-Ok-copy-clause-means
+returns-in-Ok-copy-clause-means g c =
     let whole = subst (λ (p : Primary). p.flags % 2 == 1 ≡ false) c.primary.ensures (not_fragment c.is_fragment.result c.primary.result.now.flags c.is_fragment.ensures.flag c.if-is_fragment.false) in
     no_fault c.args.bundle whole
     (ap (λ (b : List Block). least_broken (read_those is_cipher b)) (sym c.blocks-2.ensures) ∙ c.in-Ok.ensures.readable)

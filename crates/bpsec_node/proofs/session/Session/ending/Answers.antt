@@ -1,5 +1,4 @@
-use Rattle.std.proofs.Common.{◌≡◌, Bool, false, cond, List, [], Option, Some, None, sym, ◌∙◌, ap, subst}
-use Rattle.bp_blocks.specs.declared.block.Block.{Block}
+use Rattle.std.proofs.Common.{◌≡◌, cond, List, [], Some, None, sym, ◌∙◌, ap, subst}
 use Rattle.bp_bundle.specs.Shape.{Contents}
 use Rattle.bp_bundle.specs.Spelling.{IsBundle}
 use Rattle.bpsec_asb.specs.Operations.{BodiesAreBytes}
@@ -8,7 +7,7 @@ use Rattle.bpsec_node.specs.Situation.{meaning}
 use Rattle.bpsec_node.specs.Events.{events}
 use Rattle.bpsec_node.specs.Outcome.{is_discarded, resulting}
 use Rattle.bpsec_node.specs.Order.{ready}
-use Rattle.bpsec_node.specs.Finished.{Finished, blocks_in}
+use Rattle.bpsec_node.specs.Finished.{Finished}
 use Rattle.bpsec_node.specs.View.{Progress, situation}
 use Rattle.bpsec_node.proofs.Finishing.{ended}
 use Rattle.bpsec_node.proofs.Endings.{ended_is, ended_events, ended_bundle, ended_shape, outcome_bundle}

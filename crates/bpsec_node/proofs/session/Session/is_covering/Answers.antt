@@ -1,4 +1,4 @@
-use Rattle.std.proofs.Common.{◌≡◌, ℕ, List, sym, ◌∙◌, ap}
+use Rattle.std.proofs.Common.{ℕ, List, ◌∙◌, ap}
 use Rattle.bpsec_node.specs.Situation.{meaning}
 use Rattle.bpsec_node.specs.Session.{has}
 use Rattle.bpsec_node.specs.View.{situation}

@@ -1,9 +1,4 @@
-use Rattle.std.proofs.Common.{◌≡◌, List, map, Option, sym, ◌∙◌, ap}
-use Rattle.bp_bundle.specs.Shape.{Contents}
-use Rattle.bpsec_node.specs.declared.event.Event.{Event}
-use Rattle.bpsec_node.specs.declared.event.Verdict.{Verdict}
 use Rattle.bpsec_node.specs.Situation.{meaning}
-use Rattle.bpsec_node.specs.Outcome.{outcome}
 use Rattle.bpsec_node.specs.View.{Progress, situation}
 use Rattle.bpsec_node.proofs.Ways.{end_parts}
 use Rattle.bpsec_node.proofs.session.Session.outcome.Goals as goal

@@ -1,4 +1,4 @@
-use Rattle.std.proofs.Common.{◌≡◌, ℕ, Bool, true, false, ◌&&◌, List, Option, Some, sym, ◌∙◌, ap, subst}
+use Rattle.std.proofs.Common.{◌≡◌, true, false, ◌&&◌, List, sym, ◌∙◌, ap, subst}
 use Rattle.std.specs.Prelude.{is_some, option_map, Contains}
 use Rattle.bp_primary.specs.declared.primary.Primary.{Primary}
 use Rattle.bp_blocks.specs.declared.block.Block.{Block}
@@ -17,7 +17,7 @@ unfolding situation
 unreachable-requires g c =
     let there = subst (λ (p : Progress). Contains (ready (situation (meaning g.S.Suite.scope g.S.Suite.judged g.S.Suite.checked g.S.Suite.opened) p) p.done) c.args.op) (sym c.self.view_is) c.requires in
     let f = over_found _ _ _ _ _ _ _ _ _ c.self.invariant.kept c.args.op there in
-    let e : false ≡ true = c.in-None.ensures.found
+    let e : false ≡ true = c.in-None.ensures.exact
     ∙ (ap (λ (blocks : List Block). is_some (block_at blocks c.args.op.block) && is_readable (find_held c.items.result.now c.args.op.block)) c.blocks-2.ensures
     ∙ (ap (λ (held : List Held). is_some (block_at c.self.inside.shown.blocks c.args.op.block) && is_readable (find_held held c.args.op.block)) c.items.ensures ∙ f)) in
     absurd cc

@@ -1,8 +1,8 @@
-use Rattle.std.proofs.Common.{◌≡◌, ◌≤◌, [], length, sym, ◌∙◌, subst, arith}
+use Rattle.std.proofs.Common.{◌≡◌, [], sym, subst, arith}
 use Rattle.bpsec_node.specs.Situation.{meaning}
 use Rattle.bpsec_node.specs.Order.{ready}
 use Rattle.bpsec_node.specs.Running.{Ran, Ended}
-use Rattle.bpsec_node.specs.View.{Progress, SameProgress, End, situation, end_of}
+use Rattle.bpsec_node.specs.View.{Progress, End, situation, end_of}
 use Rattle.bpsec_node.proofs.Ways.{way_start, way_on, way_ran, way_end, if_ok, if_err, nothing}
 use Rattle.bpsec_node.proofs.session.Session.run_all.Goals as goal
 

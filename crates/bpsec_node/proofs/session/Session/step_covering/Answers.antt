@@ -1,18 +1,14 @@
-use Rattle.std.proofs.Common.{◌≡◌, ◌≢◌, ℕ, true, false, List, [], ◌∷◌, ◌++◌, Option, sym, ◌∙◌, ap, subst}
-use Rattle.std.specs.Prelude.{Contains, IsTrue, option_to_list}
-use Rattle.std.specs.Option.{option_copied}
+use Rattle.std.proofs.Common.{◌≡◌, ℕ, true, false, List, Option, sym, ◌∙◌, ap, subst}
+use Rattle.std.specs.Prelude.{Contains}
 use Rattle.bp_bundle.specs.Spelling.{IsBundle}
 use Rattle.bpsec_asb.specs.declared.operation.OpId.{OpId}
-use Rattle.bpsec_asb.specs.declared.operation.Service.TheVariants.{Bcb}
-use Rattle.bpsec_node.specs.declared.event.Verdict.{Verdict}
 use Rattle.bpsec_node.specs.Situation.{meaning}
 use Rattle.bpsec_node.specs.Site.{site}
-use Rattle.bpsec_node.specs.Plain.{may_be_covered}
 use Rattle.bpsec_node.specs.Verdict.{step_verdict}
 use Rattle.bpsec_node.specs.Order.{ready, shown}
 use Rattle.bpsec_node.specs.Over.{site_in, type_of, verdict_over, opened_over}
 use Rattle.bpsec_node.specs.Change.{opened_bundle}
-use Rattle.bpsec_node.specs.Session.{is_covering, IsSession}
+use Rattle.bpsec_node.specs.Session.{is_covering}
 use Rattle.bpsec_node.specs.View.{Progress, situation, after_step}
 use Rattle.bpsec_node.proofs.StepsCovering.{next_service, next_canonical, next_may, next_target, next_opened, covering_verdict, next_shape, next_covering}
 use Rattle.bpsec_node.proofs.session.Session.step_covering.Goals as goal

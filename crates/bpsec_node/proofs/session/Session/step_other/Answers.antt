@@ -1,14 +1,11 @@
-use Rattle.std.proofs.Common.{◌≡◌, ℕ, false, List, [], ◌∷◌, ◌++◌, Option, sym, ◌∙◌, ap, subst}
+use Rattle.std.proofs.Common.{◌≡◌, ℕ, false, List, Option, sym, ◌∙◌, ap, subst}
 use Rattle.std.specs.Prelude.{Contains}
-use Rattle.std.specs.Option.{option_copied}
-use Rattle.bpsec_asb.specs.declared.operation.OpId.{OpId}
-use Rattle.bpsec_node.specs.declared.event.Verdict.{Verdict}
 use Rattle.bpsec_node.specs.Situation.{meaning}
 use Rattle.bpsec_node.specs.Site.{site}
 use Rattle.bpsec_node.specs.Verdict.{step_verdict}
 use Rattle.bpsec_node.specs.Order.{ready, shown}
 use Rattle.bpsec_node.specs.Over.{site_in, verdict_over}
-use Rattle.bpsec_node.specs.Session.{has, is_covering, IsSession}
+use Rattle.bpsec_node.specs.Session.{has, is_covering}
 use Rattle.bpsec_node.specs.View.{Progress, situation, after_step}
 use Rattle.bpsec_node.proofs.Steps.{next_verdict, next_other}
 use Rattle.bpsec_node.proofs.session.Session.step_other.Goals as goal
