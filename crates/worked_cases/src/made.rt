@@ -1,6 +1,5 @@
 //! A bundle that is made of its parts, and the operations of one that is read.
 
-use crate::large::ordinary;
 use bp_blocks::Block;
 use bp_bundle::{Bundle, Reader};
 use bp_crc::CheckKind;
@@ -11,6 +10,22 @@ use cbor_profile::{Bytes, List, SpellError};
 use std::alloc::Global;
 use std::test::Fail;
 use worked_runs::inputs::bundles;
+
+/// An ordinary bundle before its payload of 3,000,000 bytes, and after it: ids of the scheme dtn, a CRC-32C of the
+/// primary and the payload block, a hop count and a previous node block.
+const FRONT: &[u8] =
+    b"\x9f\x89\x07\x00\x02\x82\x01k//earth/ops\x82\x01p//probe-7/imager\x82\x01\x00\x82\x1b\x00\x00\x00\xbaC\xb7@\x00\x01\x1a\x05&\\\x00D\xd4\xb3\x08\x87\x85\n\x02\x00\x00D\x82\x18\x1e\x00\x85\x06\x03\x00\x00E\x82\x02\x82\x03\x00\x86\x01\x01\x00\x02Z\x00-\xc6\xc0";
+
+const BACK: &[u8] = b"D?\xde\xf2y\xff";
+
+fn ordinary(alloc: Global) -> Result<Vec<u8>, Fail> {
+    let mut input = Vec::from_slice(alloc, FRONT)?;
+    for _ in 0..30 {
+        input.extend_from_slice(&[7; 100_000])?;
+    }
+    input.extend_from_slice(BACK)?;
+    Ok(input)
+}
 
 fn dtn(alloc: Global, text: &[u8]) -> Result<Eid, Fail> {
     let text = DtnText::of(Bytes::of(text.to_vec(alloc)?));
