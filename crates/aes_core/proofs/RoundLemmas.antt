@@ -16,11 +16,6 @@ round_state w n s b = record {
   bytes = Bytes-add_round_key w n (mix_columns (shift_rows (sub_bytes s))) b (Bytes-mix_columns (shift_rows (sub_bytes s)) (Bytes-shift_rows-sub_bytes s));
 }
 
-IsState-rounds : (w : List ℕ) (n : ℕ) (s : List ℕ) → Bytes w → IsState s → IsState (rounds w n s)
-unfolding rounds
-IsState-rounds w zero s b h = h
-IsState-rounds w (suc n) s b h = round_state w (suc n) (rounds w n s) b
-
 -- the substituted and turned state after n rounds, back to that before them
 rounds_undone : (w : List ℕ) (n : ℕ) (s : List ℕ) → Bytes w → IsState s
     → inverse_rounds w n (shift_rows (sub_bytes (rounds w n s))) ≡ shift_rows (sub_bytes s)

@@ -51,10 +51,6 @@ add_round_key_undone w n s e =
 
 -- ---- 16 bytes
 
-pub length-sub_bytes : (s : List ℕ) → length (sub_bytes s) ≡ 16
-unfolding sub_bytes state_of
-length-sub_bytes s = refl
-
 pub length-shift_rows : (s : List ℕ) → length (shift_rows s) ≡ 16
 unfolding shift_rows state_of
 length-shift_rows s = refl

@@ -15,6 +15,3 @@ mod words;
 
 pub use cipher::Aes;
 pub use sliced::SlicedAes;
-
-#[cfg(test)]
-mod tests;

@@ -69,7 +69,8 @@ fn last_round(state: [u32; 4]) -> [u32; 4]
 // A round back, up to its key: row r turns to the right by r.
 #[inline(always)]
 fn inverse_round(state: [u32; 4]) -> [u32; 4]
-    ensures { state_in result ≡ inverse_mix_columns (inverse_sub_bytes (inverse_shift_rows (state_in state))) }
+    ensures { state_in result
+        ≡ inverse_mix_columns (inverse_sub_bytes (inverse_shift_rows (state_in state))) }
 {
     let [a, b, c, d] = state;
     [

@@ -1,3 +1,4 @@
+-- ---- sizes
 pub mod Pieces
+-- ---- the law of one spelling
 pub mod OneSpelling
-pub mod FrontId

@@ -1,10 +1,12 @@
 //! Canonical blocks (RFC 9171, section 4.3.2).
 
 ghost use Rattle.std.specs.Prelude.{◌≡◌, ◌↔◌, IsTrue, ◌<◌, ◌≤◌, ◌+◌, ◌^◌, ◌++◌, ℕ, List, length, take, OnOk, OnErr, IfOk};
+ghost use Rattle.std.specs.Option.{option_copied};
 ghost use Rattle.bp_crc.specs.Check.{check_bytes};
 ghost use Rattle.bp_crc.specs.Checking.{bytes_of};
 ghost use Rattle.bp_crc.specs.Item.{zeros};
 ghost use Rattle.cbor_profile.specs.Feeds.{Feeds};
+ghost use Rattle.bp_blocks.specs.Blocks.{block_with};
 
 use crate::counted::Counted;
 use bp_crc::laws::what_is_fixed_names_the_kind;
@@ -50,7 +52,8 @@ impl Block {
 
     /// The check over the array whose check bytes are zero.
     fn check(&self) -> CheckBytes
-        ensures { bytes_of result ≡ check_bytes self.now.crc (array_with self.now (zeros self.now.crc)) }
+        ensures { bytes_of result
+            ≡ check_bytes self.now.crc (array_with self.now (zeros self.now.crc)) }
     {
         what_is_fixed_names_the_kind();
         let mut checking = Checking::new(self.crc);
@@ -122,4 +125,11 @@ impl Block {
             body: self.body.copy(alloc)?,
         })
     }
+}
+
+/// The canonical block with a number, if there is one. Takes no memory.
+pub fn block_with(blocks: &[Block], number: u64) -> Option<&Block>
+    ensures { option_copied result ≡ block_with blocks.now number }
+{
+    blocks.iter().find(|block| block.number == number)
 }

@@ -34,6 +34,16 @@ impl fmt::Display for BodyFault {
 
 impl Error for BodyFault {}
 
+impl From<NoMemory> for BodyFault {
+    ghost use Rattle.bp_blocks.specs.declared.bodies.BodyFault.{BodyFault};
+
+    ghost from_gives = { λ _ fault. fault ≡ BodyFault.NoMemory };
+
+    fn from(_error: NoMemory) -> BodyFault {
+        BodyFault::NoMemory
+    }
+}
+
 /// How many nodes a bundle may pass, and how many it has passed (section 4.4.3).
 #[derive(Clone, Copy, Debug, PartialEq, Eq)]
 pub struct Hops {
@@ -48,12 +58,13 @@ pub fn previous_node(alloc: Global, body: &[u8]) -> Result<Eid, BodyFault>
     ensures found { (eid : Eid) → Fits eid → body.now ≡ spelling eid
         → MatchResult result (λ found. found ≡ eid) (λ fault. fault ≡ BodyFault.NoMemory) }
     // Memory runs out only where the body is one id with a text, and nothing more.
-    ensures memory { result ≡ Err BodyFault.NoMemory → (eid : Eid) × HasText eid × Fits eid × (body.now ≡ spelling eid) }
+    ensures memory { result ≡ Err BodyFault.NoMemory
+        → (eid : Eid) × HasText eid × Fits eid × (body.now ≡ spelling eid) }
 {
     match Eid::read_whole(alloc, body) {
         Ok(Some(eid)) => Ok(eid),
         Ok(None) => Err(BodyFault::Unreadable),
-        Err(NoMemory) => Err(BodyFault::NoMemory),
+        Err(error) => Err(error.into()),
     }
 }
 

@@ -6,7 +6,8 @@ ghost use Rattle.bp_blocks.specs.declared.block.Block.{Block};
 
 /// A spelling determines its block, and no spelling is a proper prefix of another.
 pub fn blocks_have_one_spelling()
-    ensures { (a b : Block) (x y : List ℕ) → IsBlock a → IsBlock b → spelling a ++ x ≡ spelling b ++ y → (a ≡ b) × (x ≡ y) }
+    ensures { (a b : Block) (x y : List ℕ) → IsBlock a → IsBlock b
+        → spelling a ++ x ≡ spelling b ++ y → (a ≡ b) × (x ≡ y) }
 {
     cbor_profile::laws::heads_have_one_spelling();
 }

@@ -6,9 +6,6 @@ mod bodies;
 mod counted;
 pub mod laws;
 
-pub use block::Block;
+pub use block::{Block, block_with};
 pub use bodies::{BodyFault, Hops, age, hop_count, previous_node, put_age, put_hops};
 pub use bp_crc::{CheckKind, Feed};
-
-#[cfg(test)]
-mod tests;

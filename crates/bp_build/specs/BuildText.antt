@@ -5,7 +5,7 @@ use Rattle.serde_json.specs.Data.{Data}
 use Rattle.serde_json.specs.Find.{get}
 use Rattle.bp_eid.specs.declared.eid.Eid.{Eid}
 use Rattle.bp_crc.specs.declared.kind.CheckKind.{CheckKind}
-use Rattle.bp_crc.specs.declared.kind.CheckKind.TheVariants as checks
+use Rattle.bp_crc.specs.Item.{check_of}
 use Rattle.bp_primary.specs.Flags.{is_fragment}
 use Rattle.bp_primary.specs.declared.primary.Piece.{Piece}
 use Rattle.bp_primary.specs.declared.primary.Primary.{Primary}
@@ -27,10 +27,6 @@ use Rattle.bp_text.specs.Entries.{entries_at}
 
 abbrev pub most : ℕ
 most = 18446744073709551615
-
--- the kind of check with a number (RFC 9171, section 4.2.1)
-abbrev pub check_of : ℕ → CheckKind
-check_of n = if n == 0 then checks.None else if n == 1 then checks.Crc16 else checks.Crc32c
 
 -- ---- the primary block (RFC 9171, section 4.3.1): `flags`, `crc` (0 to 2), `to`, `from`, `report` (ids), `created`,
 -- ---- `sequence`, `lifetime`, and `offset` and `total` exactly where the flags have bit 0

@@ -6,8 +6,8 @@ ghost use Rattle.serde_json.specs.View.{view};
 ghost use Rattle.bp_text.specs.Fault.{IsFieldFault};
 ghost use Rattle.bp_build.specs.BuildText.{has_block_keys, is_block_shape, block_at};
 
-use crate::primary::check_of;
 use bp_blocks::Block;
+use bp_crc::CheckKind;
 use bp_text::{Entry, Field, FieldFault, Kind, has, has_only, hex_field};
 use cbor_profile::{List, NoMemory};
 use serde_json::Value;
@@ -66,7 +66,7 @@ impl Entry for BlockEntry {
             kind,
             number,
             flags,
-            crc: check_of(crc),
+            crc: CheckKind::of_number(crc),
             body,
         };
         Ok(BlockEntry { block })
@@ -79,9 +79,7 @@ pub(crate) fn blocks_of(alloc: Global, entries: List<BlockEntry>) -> Result<List
 {
     let mut blocks = List::new(alloc);
     for entry in entries.into_vec() {
-        if blocks.push(entry.block).is_err() {
-            return Err(NoMemory);
-        }
+        blocks.append(entry.block)?;
     }
     Ok(blocks)
 }

@@ -45,7 +45,8 @@ fn index_of(fault: ShapeFault) -> Option<u64>
 
 /// The bundle of these blocks, or NotABundle. Takes no memory.
 fn bundle_of(primary: Primary, blocks: List<Block>) -> Result<Bundle, TextError>
-    ensures { Gives IsTextError (λ bundle. bundle) result (bundle_of (record { primary = primary; blocks = blocks })) }
+    ensures { Gives IsTextError (λ bundle. bundle) result
+        (bundle_of (record { primary = primary; blocks = blocks })) }
 {
     match Bundle::of(primary, blocks) {
         Ok(bundle) => Ok(bundle),
@@ -58,13 +59,14 @@ fn bundle_of(primary: Primary, blocks: List<Block>) -> Result<Bundle, TextError>
 
 /// The blocks of a list.
 fn read_blocks(alloc: Global, values: &[Value]) -> Result<List<Block>, TextError>
-    ensures { Gives IsTextError (λ blocks. blocks) result (entries_at block_at 0 [] (map view values.now)) }
+    ensures { Gives IsTextError (λ blocks. blocks) result
+        (entries_at block_at 0 [] (map view values.now)) }
 {
     let mut names = Names::new(alloc);
     match read_entries(alloc, 1, values, 0, &mut names) {
         Ok(entries) => match blocks_of(alloc, entries) {
             Ok(blocks) => Ok(blocks),
-            Err(_) => Err(TextError::NoMemory),
+            Err(error) => Err(error.into()),
         },
         Err(e) => Err(e),
     }

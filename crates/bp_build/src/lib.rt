@@ -6,6 +6,3 @@ mod build;
 mod primary;
 
 pub use build::{BLOCK_LIMIT, bundle_from_json};
-
-#[cfg(test)]
-mod tests;

@@ -4,7 +4,7 @@ ghost use Rattle.std.specs.Prelude.{◌≡◌, codes};
 ghost use Rattle.cbor_profile.specs.Step.{Gives};
 ghost use Rattle.serde_json.specs.View.{view};
 ghost use Rattle.bp_text.specs.Fault.{IsFieldFault};
-ghost use Rattle.bp_build.specs.BuildText.{check_of, has_nodes, has_times, has_place, has_whole_keys, has_fragment_keys, is_of_fragment, has_keys, is_primary_shape, nodes_at, times_at, place_at, place_if, primary_of, primary_at};
+ghost use Rattle.bp_build.specs.BuildText.{has_nodes, has_times, has_place, has_whole_keys, has_fragment_keys, is_of_fragment, has_keys, is_primary_shape, nodes_at, times_at, place_at, place_if, primary_of, primary_at};
 
 use bp_crc::CheckKind;
 use bp_eid::Eid;
@@ -12,17 +12,6 @@ use bp_primary::{Piece, Primary};
 use bp_text::{Field, FieldFault, Kind, eid_field, has, has_only, number_field};
 use serde_json::Value;
 use std::alloc::Global;
-
-/// The kind of check with a number.
-pub(crate) fn check_of(number: u64) -> CheckKind
-    ensures { result ≡ check_of number }
-{
-    match number {
-        0 => CheckKind::None,
-        1 => CheckKind::Crc16,
-        _ => CheckKind::Crc32c,
-    }
-}
 
 // ---- the shape
 
@@ -175,7 +164,7 @@ fn primary_of(
     let (created, sequence, lifetime) = times;
     Primary {
         flags,
-        crc: check_of(crc),
+        crc: CheckKind::of_number(crc),
         destination,
         source,
         report_to,

@@ -2,93 +2,38 @@
 use Rattle.std.proofs.Common.{◌≡◌, ◌≢◌, ℕ, zero, suc, ◌+◌, ◌<◌, ◌≤◌, Bool, true, false, cond, eqb, List, [], ◌∷◌, length, map, get_or, Some, refl, sym, ◌∙◌, ap, arith, eq-eqb, length-append}
 use Rattle.std.specs.List.{All, AllPairs, slice_get}
 use Rattle.std.proofs.lemmas.Bool.{eqb-true, false_from_ne_true}
-use Rattle.cbor_profile.specs.Put.{uint, byte_string, array_head}
-use Rattle.cbor_profile.proofs.Sizes.{head_one}
 use Rattle.bp_crc.specs.declared.kind.CheckKind.{CheckKind}
 use Rattle.bp_crc.specs.declared.kind.CheckKind.TheVariants as kinds
-use Rattle.bp_crc.specs.Item.{check_type, check_count, check_item, zeros}
 use Rattle.bp_primary.specs.declared.primary.Primary.{Primary}
-use Rattle.bp_primary.specs.Fragment.{fragment_count, fragment_items}
 use Rattle.bp_primary.specs.Spelling as primaries
-use Rattle.bp_primary.specs.Spelling.{front, nodes, times}
-use Rattle.bp_primary.proofs.Pieces as primary_pieces
-use Rattle.bp_primary.proofs.Pieces.{few_items, small_type}
+use Rattle.bp_primary.specs.Spelling.{nodes, times}
 use Rattle.bp_blocks.specs.declared.block.Block.{Block}
 use Rattle.bp_blocks.specs.Spelling as blocks
-use Rattle.bp_blocks.proofs.Pieces as block_pieces
 use Rattle.bp_bundle.specs.Shape.{Contents}
 use Rattle.bp_bundle.specs.Spelling.{IsNumbered, IsBundle, spelling}
 use Rattle.bp_bundle.specs.Edits.{check_size, crc_if, with_crc}
-use Rattle.bp_bundle.proofs.Sizes.{spelled, whole_size}
+use Rattle.bp_bundle.proofs.Sizes.{spelled, spelled_cons, whole_size}
+use Rattle.bp_bundle.proofs.BlockSizes.{block_size, primary_size}
 
 other_number : (a b : ℕ) → a ≢ b → eqb a b ≡ false
 other_number a b other = false_from_ne_true (eqb a b) (λ e. other (eqb-true a b e))
 
-item_size : (kind : CheckKind) → length (check_item kind (zeros kind)) ≡ check_size kind
-unfolding byte_string
-item_size kinds.None = refl
-item_size kinds.Crc16 = refl
-item_size kinds.Crc32c = refl
-
-few_checks : (kind : CheckKind) → 5 + check_count kind < 24
-few_checks kinds.None = omega arith
-few_checks kinds.Crc16 = omega arith
-few_checks kinds.Crc32c = omega arith
-
-number_size : (n : ℕ) → n < 24 → length (uint n) ≡ 1
-unfolding uint
-number_size n small = head_one 0 n small
-
 -- ---- one block
 
--- how many bytes it has without a check
-block_base : Block → ℕ
-block_base block = 2 + length (uint block.kind) + length (uint block.number) + length (uint block.flags) + length (byte_string block.body)
-
-block_size : (block : Block) → length (blocks.spelling block) ≡ block_base block + check_size block.crc
-unfolding blocks.array_with array_head block_base
-block_size block =
-    let items = head_one 4 (5 + check_count block.crc) (few_checks block.crc) in
-    let type = number_size (check_type block.crc) (small_type block.crc) in
-    let item = item_size block.crc in
-    rw (block_pieces.length-spelling block) (simp length-append (omega arith))
-
-base_same : (block : Block) (crc : CheckKind) → block_base (record block { crc = crc }) ≡ block_base block
-unfolding block_base
-base_same block crc = refl
-
 block_changed : (block : Block) (crc : CheckKind) → length (blocks.spelling (record block { crc = crc })) + check_size block.crc ≡ length (blocks.spelling block) + check_size crc
-block_changed block crc = let base = base_same block crc in omega (arith, block_size block, block_size (record block { crc = crc }))
+block_changed block crc = omega (arith, block_size block, block_size (record block { crc = crc }))
 
 -- ---- the primary block
 
-primary_base : Primary → ℕ
-primary_base primary = 3 + length (uint primary.flags) + length (nodes primary) + length (times primary) + length (fragment_items primary.fragment)
-
-primary_size : (primary : Primary) → length (primaries.spelling primary) ≡ primary_base primary + check_size primary.crc
-unfolding primaries.array_with front array_head primary_base
-primary_size primary =
-    let items = head_one 4 (8 + fragment_count primary.fragment + check_count primary.crc) (few_items primary) in
-    let version = number_size 7 (omega arith) in
-    let type = number_size (check_type primary.crc) (small_type primary.crc) in
-    let item = item_size primary.crc in
-    rw (primary_pieces.length-spelling primary) (simp length-append (omega arith))
-
-primary_base_same : (primary : Primary) (crc : CheckKind) → primary_base (record primary { crc = crc }) ≡ primary_base primary
-unfolding primary_base nodes times
-primary_base_same primary crc = refl
-
 primary_changed : (primary : Primary) (crc : CheckKind) → length (primaries.spelling (record primary { crc = crc })) + check_size primary.crc ≡ length (primaries.spelling primary) + check_size crc
-primary_changed primary crc = let base = primary_base_same primary crc in omega (arith, primary_size primary, primary_size (record primary { crc = crc }))
+unfolding nodes times
+primary_changed primary crc = omega (arith, primary_size primary, primary_size (record primary { crc = crc }))
 
 pub primary_check_size : (bundle : Contents) (crc : CheckKind) → length (spelling (with_crc 0 crc bundle)) + check_size bundle.primary.crc ≡ length (spelling bundle) + check_size crc
 primary_check_size bundle crc =
     omega (arith, whole_size bundle, whole_size (record bundle { primary = record bundle.primary { crc = crc } }), primary_changed bundle.primary crc)
 
 -- ---- the block of a number
-
-spelled_cons : (b : Block) (bs : List Block) → length (spelled (b ∷ bs)) ≡ length (blocks.spelling b) + length (spelled bs)
-spelled_cons b bs = length-append (blocks.spelling b) (spelled bs)
 
 -- no block has the number
 others_same : (number : ℕ) (crc : CheckKind) (bs : List Block) → ((k : ℕ) (d : Block) → k < length bs → (get_or bs k d).number ≢ number) → map (crc_if number crc) bs ≡ bs

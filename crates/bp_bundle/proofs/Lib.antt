@@ -1,37 +1,28 @@
+-- shapes and sizes
 pub mod Sizes
-pub mod Shapes
-pub mod Unfaulted
-mod Changes
-pub mod CheckSizes
-pub mod Edited
-pub mod Arguments
-pub mod PrimaryMeans
-mod BlocksMeans
-mod Again
-mod Shorter
-mod Checks
-mod Growing
-mod Ending
-mod Resuming
-mod Following
-mod Short
-mod Majors
-mod Bounds
-mod Runs
-mod Taken
-mod WholeInputs
-mod InTurn
-mod Fresh
-pub mod Reached
-pub mod HeadsReached
-pub mod IdsReached
-mod BlockReached
-mod BlocksReached
-mod PartsReached
-mod PrimaryReached
-mod BundleReached
-pub mod Sealed
-pub mod SealedHeads
-pub mod SealedIds
-mod SealedParts
-mod SealedBundle
+pub mod BlockSizes
+pub mod ShapeRules
+pub mod NoFaultOfShape
+-- what is spelled is read, and what is read is spelled
+pub mod HeadsAsSpelled
+pub mod ReadPrimaryIsSpelled
+pub mod ReadBundleIsSpelled
+pub mod SpelledIsRead
+-- what is read stays where bytes are added, and stands within the bytes and within the limit
+pub mod LeftIsLess
+pub mod ReadingStays
+mod FaultsWithin
+mod FewBytes
+mod MajorTypes
+pub mod WithinTheLimit
+-- the streaming decoder
+mod HeaderText
+mod StatesGoOn
+mod StepsFollow
+mod ReaderAnswers
+mod OneBundleInputs
+mod NextBundle
+-- edits
+mod ChangedInPlace
+pub mod EditsLeaveBundles
+mod CheckSizes

@@ -12,7 +12,10 @@ use Rattle.bp_bundle.specs.Spelling.{spelling}
 abbrev pub spelled : List Block → List ℕ
 spelled bs = flat_map blocks.spelling bs
 
-pub spelled_one : (b : Block) → spelled (b ∷ []) ≡ blocks.spelling b
+pub spelled_cons : (b : Block) (bs : List Block) → length (spelled (b ∷ bs)) ≡ length (blocks.spelling b) + length (spelled bs)
+spelled_cons b bs = length-append (blocks.spelling b) (spelled bs)
+
+spelled_one : (b : Block) → spelled (b ∷ []) ≡ blocks.spelling b
 spelled_one b = append-nil (blocks.spelling b)
 
 pub size_step : (bs : List Block) (i : ℕ) (b : Block) → i < length bs → b ≡ get_or bs i b → length (spelled (take (i + 1) bs)) ≡ length (spelled (take i bs)) + length (blocks.spelling b)

@@ -7,7 +7,7 @@ use Rattle.cbor_profile.specs.Step.{◌>>=◌}
 use Rattle.bp_crc.specs.declared.kind.CheckKind.{CheckKind}
 use Rattle.bp_crc.specs.declared.kind.CheckKind.TheVariants as kinds
 use Rattle.bp_crc.specs.Check.{check_bytes}
-use Rattle.bp_crc.specs.Item.{zeros}
+use Rattle.bp_crc.specs.Item.{zeros, check_of}
 use Rattle.bp_eid.specs.declared.eid.Eid.{Eid}
 use Rattle.bp_eid.specs.declared.reading.EidAt.{EidAt}
 use Rattle.bp_eid.specs.Reading.{read_id}
@@ -55,15 +55,11 @@ id_at cursor = after_id cursor (read_id cursor.rest)
 
 -- ---- checks
 
--- the check of this type
-abbrev pub kind_of : ℕ → CheckKind
-kind_of type = if type == 0 then kinds.None else if type == 1 then kinds.Crc16 else kinds.Crc32c
-
 -- a check type, not 0 exactly where there is an item for the check
 unfoldable pub check_type_at : Bool → Cursor → Result (CheckKind × Cursor) Fault
 check_type_at checked cursor = do
   type ← argument_at [] (CheckType checked) cursor
-  Ok (kind_of type.0, type.1)
+  Ok (check_of type.0, type.1)
 
 -- a check: a byte string with just these bytes
 unfoldable pub check_string_at : CheckKind → List ℕ → Cursor → Result Cursor Fault

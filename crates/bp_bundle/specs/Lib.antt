@@ -5,9 +5,7 @@ pub mod Edits
 pub mod InsertAnswer
 pub mod Tokens
 pub mod FirstFault
-pub mod Prefix
 pub mod Step
-pub mod Running
 pub mod HeaderText
 pub mod Machine
 pub mod Taking

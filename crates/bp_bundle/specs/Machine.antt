@@ -15,9 +15,9 @@ use Rattle.bp_bundle.specs.declared.stage.Begun.{Begun}
 use Rattle.bp_bundle.specs.declared.stage.Stage.{Stage}
 use Rattle.bp_bundle.specs.declared.stage.Stage.TheVariants.{Front, Header, Body, Tail, Done}
 use Rattle.bp_bundle.specs.declared.stage.Step.{Step}
-use Rattle.bp_bundle.specs.declared.stage.Step.TheVariants.{On, Wait, Stop}
+use Rattle.bp_bundle.specs.declared.stage.Step.TheVariants.{On, Last}
 use Rattle.bp_bundle.specs.declared.stage.Outcome.{Outcome}
-use Rattle.bp_bundle.specs.declared.stage.Outcome.TheVariants as outcomes
+use Rattle.bp_bundle.specs.declared.stage.Outcome.TheVariants.{Wait, End, Stop}
 
 -- so many bytes more
 abbrev pub more_at : List ℕ → Cursor → Cursor
@@ -62,15 +62,15 @@ abbrev pub StopsBy : SpellError → Stage → Cursor → Type 0
 StopsBy errors.NoMemory stage cursor = Unit {0}
 StopsBy (errors.Fault fault) stage cursor = (fault.reason ≢ Truncated) × ((more : List ℕ) → resume stage (more_at more cursor) ≡ Err fault)
 
+-- what all steps over some bytes came to
+abbrev pub Ran : Stage → Cursor → Outcome → Type 0
+Ran stage cursor (Wait after then) =
+    Follows stage cursor after (seen then)
+    × (resume after (seen then) ≡ Err (record { place = then.place + length then.rest.now; reason = Truncated }))
+Ran stage cursor (End begun then) = Follows stage cursor (Done begun) (seen then)
+Ran stage cursor (Stop error) = StopsBy error stage cursor
+
 -- what a step came to
 abbrev pub Steps : Stage → Cursor → Step → Type 0
 Steps stage cursor (On after then) = Follows stage cursor after (seen then) × (steps_left after < steps_left stage)
-Steps stage cursor (Wait after then) = Follows stage cursor after (seen then) × Waits after (seen then)
-Steps stage cursor (Stop left error) = StopsBy error stage cursor
-
--- what all steps came to
-abbrev pub Ran : Stage → Cursor → Outcome → Type 0
-Ran stage cursor (outcomes.Wait after then) =
-    Follows stage cursor after (seen then) × (resume after (seen then) ≡ Err (record { place = then.place + length then.rest.now; reason = Truncated }))
-Ran stage cursor (outcomes.End begun then) = Follows stage cursor (Done begun) (seen then)
-Ran stage cursor (outcomes.Stop left error) = StopsBy error stage cursor
+Steps stage cursor (Last outcome) = Ran stage cursor outcome

@@ -75,7 +75,7 @@ Finishes taken (Err error) = (read_bundle taken ≡ Err (early taken)) × (error
 
 -- where the reader stands after all steps over some bytes
 abbrev pub Settles : Outcome → ℕ → Reader → Reader → Result Fed SpellError → Type 0
-Settles (outcomes.Stop left error) given old new result = (result ≡ Err error) × (new.met ≡ Some error)
+Settles (outcomes.Stop error) given old new result = (result ≡ Err error) × (new.met ≡ Some error)
 Settles (outcomes.End begun then) given old new result =
     (result ≡ Ok (record { taken = given - length then.rest.now; done = true })) × (new.met ≡ old.met) × (new.stage ≡ stages.Done begun) × (new.place ≡ min then.place (2 ^ 62)) × (new.pending ≡ [])
 Settles (outcomes.Wait stage then) given old new (Ok fed) =

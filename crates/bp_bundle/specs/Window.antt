@@ -4,7 +4,10 @@ use Rattle.cbor_profile.specs.declared.fault.Reason.TheVariants.{Truncated}
 use Rattle.bp_outside.specs.Outside.{Taken}
 use Rattle.cbor_profile.specs.declared.fault.SpellError.{SpellError}
 use Rattle.cbor_profile.specs.declared.fault.SpellError.TheVariants as errors
+use Rattle.bp_bundle.specs.Shape.{Contents}
 use Rattle.bp_bundle.specs.Spelling.{IsBundle, spelling}
+use Rattle.bp_bundle.specs.Taking.{Took}
+use Rattle.bp_bundle.specs.declared.reader.Reader.{Reader}
 use Rattle.bp_bundle.specs.BackToBack.{Waiting, moved}
 use Rattle.bp_bundle.specs.declared.bundle.Bundle.{Bundle}
 use Rattle.bp_bundle.specs.declared.whole_input.InputFault.{InputFault}
@@ -31,8 +34,6 @@ FitsThere place errors.NoMemory = Unit {0}
 abbrev pub over_there : ℕ → ℕ → Result (Option Bundle) InputFault
 over_there place count = if count == 0 then Ok None else Err (inputs.Fault (record { place = place + count; reason = Truncated }))
 
--- a bundle with this spelling
-abbrev pub IsWhole : List ℕ → Result (Option Bundle) InputFault → Type 0
-IsWhole spelled (Ok (Some bundle)) = IsBundle bundle × (spelled ≡ spelling bundle)
-IsWhole spelled (Ok None) = ⊥
-IsWhole spelled (Err fault) = ⊥
+-- the reader has taken the spelling of a bundle, and no more
+abbrev pub HasWhole : Reader → Type 0
+HasWhole reader = (bundle : Contents) × IsBundle bundle × Took reader (spelling bundle)

@@ -5,13 +5,14 @@ ghost use Rattle.cbor_profile.specs.Feeds.{Feeds};
 ghost use Rattle.cbor_profile.specs.Head.{head_spelling};
 ghost use Rattle.cbor_profile.specs.declared.TheConstants.{BUNDLE_LIMIT};
 ghost use Rattle.bp_bundle.specs.HeaderText.{header_text};
-ghost use Rattle.bp_bundle.specs.Running.{Runs};
+ghost use Rattle.bp_crc.specs.Checking.{StandsFor, kind_of};
 ghost use Rattle.bp_bundle.specs.FirstFault.{block_of};
 
-use crate::check::Running;
 use crate::header::Header;
 use crate::stage::{Begun, Closing, Open};
 use bp_blocks::Block;
+use bp_crc::Checking;
+use bp_crc::laws::what_is_fixed_names_the_kind;
 use cbor_profile::{Bytes, Feed, Head, List, NoMemory, feed_array, feed_uint, head_bytes};
 use std::alloc::Global;
 
@@ -43,12 +44,14 @@ fn feed_header<F: Feed>(header: Header, into: &mut F)
 }
 
 /// The check over a header.
-fn begin_check(header: Header) -> Running
-    ensures { Runs header.crc result (header_text header) }
+fn begin_check(header: Header) -> Checking
+    ensures kind { kind_of result ≡ header.crc }
+    ensures stands { StandsFor result (header_text header) }
 {
-    let mut running = Running::new(header.crc);
-    feed_header(header, &mut running);
-    running
+    what_is_fixed_names_the_kind();
+    let mut checking = Checking::new(header.crc);
+    feed_header(header, &mut checking);
+    checking
 }
 
 /// A block of whose body nothing has come.
@@ -63,7 +66,7 @@ pub(crate) fn opened(alloc: Global, begun: Begun, header: Header) -> Open
         begun,
         header,
         body: Bytes::new(alloc),
-        running: begin_check(header),
+        checking: begin_check(header),
     }
 }
 
@@ -74,19 +77,20 @@ pub(crate) fn absorbed(opened: Open, piece: &[u8]) -> Result<Open, NoMemory>
     ensures header { IfOk result (λ next. next.header ≡ opened.header) }
     ensures body { IfOk result (λ next. next.body ≡ opened.body ++ piece.now) }
 {
+    what_is_fixed_names_the_kind();
     let Open {
         begun,
         header,
         mut body,
-        mut running,
+        mut checking,
     } = opened;
     body.extend(piece)?;
-    running.feed(piece);
+    checking.feed(piece);
     Ok(Open {
         begun,
         header,
         body,
-        running,
+        checking,
     })
 }
 
@@ -96,13 +100,14 @@ pub(crate) fn closed(opened: Open) -> Closing
     ensures begun { result.begun ≡ opened.begun }
     ensures block { result.block ≡ block_of opened.header opened.body }
 {
+    what_is_fixed_names_the_kind();
     let Open {
         begun,
         header,
         body,
-        mut running,
+        mut checking,
     } = opened;
-    header.crc.feed(header.crc.zeros(), &mut running);
+    header.crc.feed(header.crc.zeros(), &mut checking);
     Closing {
         begun,
         block: Block {
@@ -112,7 +117,7 @@ pub(crate) fn closed(opened: Open) -> Closing
             crc: header.crc,
             body,
         },
-        check: running.finish(),
+        check: checking.finish(),
     }
 }
 
@@ -129,8 +134,6 @@ pub(crate) fn pushed(closing: Closing) -> Result<Begun, NoMemory>
         block,
         check: _check,
     } = closing;
-    match blocks.push(block) {
-        Ok(()) => Ok(Begun { primary, blocks }),
-        Err(_block) => Err(NoMemory),
-    }
+    blocks.append(block)?;
+    Ok(Begun { primary, blocks })
 }

@@ -3,13 +3,14 @@
 ghost use Rattle.std.specs.Prelude.{◌≡◌, ◌==◌, ◌+◌, ◌<◌, ◌≤◌, ◌↔◌, ◌++◌, None, Some, length, take, remove, insert, slice_index_or, IsOk, IsErr, IfOk, IfErr, OnOk, OnErr, MatchResult};
 ghost use Rattle.std.specs.List.{HoldsAt, position, flat_map};
 ghost use Rattle.bp_blocks.specs.Spelling as canonical;
+ghost use Rattle.bp_bundle.specs.Shape.{payload};
 ghost use Rattle.bp_bundle.specs.Spelling.{IsBundle, spelling};
 ghost use Rattle.bp_bundle.specs.Faults.{shape_fault};
 ghost use Rattle.bp_bundle.specs.Edits.{HasNumber, with_crc, with_body};
 ghost use Rattle.bp_bundle.specs.InsertAnswer.{IsFaultOf};
 
 use crate::edits::{InsertFault, exchange_body, exchange_crc, insert_block};
-use crate::shape::{ShapeFault, bundle_size, size_of};
+use crate::shape::{ShapeFault, bundle_size, spelled_size};
 use bp_blocks::Block;
 use bp_crc::CheckKind;
 use bp_primary::Primary;
@@ -45,10 +46,11 @@ impl Bundle {
         // Which fault it is, or none.
         ensures exact { MatchResult result (λ _. shape_fault (record { primary = primary; blocks = blocks }) ≡ None)
             (λ fault. shape_fault (record { primary = primary; blocks = blocks }) ≡ Some fault) }
+        ensures shape { IfOk result IsBundle }
         // A bundle isn't refused.
         ensures found { IsBundle (record { primary = primary; blocks = blocks }) → IsOk result }
     {
-        match bundle_size(&primary, &blocks) {
+        match bundle_size(&primary, blocks.items()) {
             Ok(size) => Ok(Bundle {
                 primary,
                 blocks,
@@ -67,9 +69,21 @@ impl Bundle {
 
     /// The canonical blocks in their order. Takes no memory.
     pub fn blocks(&self) -> &[Block]
-        ensures { result.now ≡ self.now.blocks }
+        ensures blocks { result.now ≡ self.now.blocks }
+        ensures shape { IsBundle self.now }
     {
         self.blocks.items()
+    }
+
+    /// The payload: the body of the last block. Takes no memory.
+    pub fn payload(&self) -> &[u8]
+        ensures payload { result.now ≡ payload self.now }
+        ensures shape { IsBundle self.now }
+    {
+        match self.blocks.items().last() {
+            Some(block) => block.body.as_slice(),
+            None => &[],
+        }
     }
 
     /// How many bytes the spelling has. It is kept, and not computed again.
@@ -122,7 +136,7 @@ impl Bundle {
         ensures rest { self.new ≡ record self.old { blocks = remove self.old.blocks index } }
     {
         let block = self.blocks.remove(index);
-        self.size = size_of(&self.primary, &self.blocks);
+        self.size = spelled_size(&self.primary, self.blocks.items());
         block
     }
 
@@ -133,7 +147,7 @@ impl Bundle {
         ensures { self.new ≡ with_crc number crc self.old }
     {
         exchange_crc(&mut self.primary, &mut self.blocks, number, crc);
-        self.size = size_of(&self.primary, &self.blocks);
+        self.size = spelled_size(&self.primary, self.blocks.items());
     }
 
     /// Gives the block at an index this body, and hands the old one back. An `Err` hands the new one back, and changes
@@ -147,7 +161,7 @@ impl Bundle {
         ensures exact { IsErr result ↔ (BUNDLE_LIMIT < length (spelling (with_body index body self.old))) }
     {
         let old = exchange_body(&mut self.blocks, index, body);
-        let size = size_of(&self.primary, &self.blocks);
+        let size = spelled_size(&self.primary, self.blocks.items());
         if size > BUNDLE_LIMIT {
             return Err(exchange_body(&mut self.blocks, index, old));
         }
@@ -219,9 +233,7 @@ fn copy_blocks(alloc: Global, blocks: &[Block]) -> Result<List<Block>, NoMemory>
 {
     let mut copies = List::new(alloc);
     for block in blocks {
-        if copies.push(block.copy(alloc)?).is_err() {
-            return Err(NoMemory);
-        }
+        copies.append(block.copy(alloc)?)?;
     }
     Ok(copies)
 }

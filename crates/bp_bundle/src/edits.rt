@@ -85,7 +85,7 @@ pub(crate) fn insert_block(
 {
     match blocks.insert(index, block) {
         Err(_block) => Err(InsertFault::NoMemory),
-        Ok(()) => match bundle_size(primary, blocks) {
+        Ok(()) => match bundle_size(primary, blocks.items()) {
             Ok(size) => Ok(size),
             Err(fault) => {
                 let _block = blocks.remove(index);

@@ -1,6 +1,6 @@
 //! Feeding the streaming decoder.
 
-ghost use Rattle.std.specs.Prelude.{◌≡◌, [], List, ℕ, None, Some, Err, IsOk, IfOk};
+ghost use Rattle.std.specs.Prelude.{◌≡◌, [], List, ℕ, None, Some, Err, IfOk};
 ghost use Rattle.cbor_profile.specs.declared.fault.SpellError.{SpellError};
 ghost use Rattle.bp_bundle.specs.Spelling.{IsBundle};
 ghost use Rattle.bp_bundle.specs.Taking.{met, Took, Feeds, Finishes, Settles, Concludes};
@@ -10,8 +10,8 @@ use crate::bundle::Bundle;
 use crate::laws;
 use crate::reader::{Fed, Reader};
 use crate::run::run;
-use crate::stage::{Begun, Outcome, Stage};
-use cbor_profile::{Bytes, Fault, NoMemory, Reason, SpellError};
+use crate::stage::{Outcome, Stage};
+use cbor_profile::{Bytes, Fault, Reason, SpellError};
 use std::alloc::Global;
 use std::mem;
 
@@ -33,15 +33,21 @@ impl Reader {
         }
     }
 
+    /// Keeps an error, and answers it.
+    fn fail(&mut self, error: SpellError) -> Result<Fed, SpellError>
+        ensures result { result ≡ Err error }
+        ensures met { met self.new ≡ Some error }
+    {
+        self.met = Some(error);
+        Err(error)
+    }
+
     /// Keeps what all steps over some bytes came to, of which so many are new.
     fn settle(&mut self, outcome: Outcome<'_>, given: usize) -> Result<Fed, SpellError>
         ensures { Settles outcome.entry given self.old self.new result }
     {
         match outcome {
-            Outcome::Stop(_left, error) => {
-                self.met = Some(error);
-                Err(error)
-            }
+            Outcome::Stop(error) => { self.fail(error) }
             Outcome::End(begun, rest) => {
                 self.stage = Stage::Done(begun);
                 self.place = rest.place.min(PLACES);
@@ -53,9 +59,8 @@ impl Reader {
             }
             Outcome::Wait(stage, rest) => {
                 let mut kept = Bytes::new(self.alloc);
-                if kept.extend(rest.rest).is_err() {
-                    self.met = Some(SpellError::NoMemory);
-                    return Err(SpellError::NoMemory);
+                if let Err(error) = kept.extend(rest.rest) {
+                    return self.fail(SpellError::from(error));
                 }
                 self.stage = stage;
                 self.place = rest.place.min(PLACES);
@@ -90,10 +95,7 @@ impl Reader {
         let mut all = mem::replace(&mut self.pending, Bytes::new(self.alloc));
         match all.extend(piece) {
             Ok(()) => {}
-            Err(NoMemory) => {
-                self.met = Some(SpellError::NoMemory);
-                return Err(SpellError::NoMemory);
-            }
+            Err(error) => return self.fail(SpellError::from(error)),
         }
         let here = At {
             place: self.place,
@@ -108,6 +110,7 @@ impl Reader {
     pub fn finish(self) -> Result<Bundle, SpellError>
         ensures means { (taken : List ℕ) → Took self taken → Finishes taken result }
         ensures again { (error : SpellError) → met self ≡ Some error → result ≡ Err error }
+        ensures shape { IfOk result IsBundle }
     {
         laws::bundles_are_read_as_spelled();
         if let Some(error) = self.met {
@@ -127,7 +130,8 @@ impl Reader {
 
 /// The bundle that has ended, else the fault of bytes that end too early, before this place.
 fn concluded(stage: Stage, place: u64) -> Result<Bundle, SpellError>
-    ensures { Concludes stage place result }
+    ensures concludes { Concludes stage place result }
+    ensures shape { IfOk result IsBundle }
 {
     let early = SpellError::Fault(Fault {
         place,
@@ -138,17 +142,10 @@ fn concluded(stage: Stage, place: u64) -> Result<Bundle, SpellError>
         Stage::Header(_begun) => Err(early),
         Stage::Body(_block) => Err(early),
         Stage::Tail(_closing) => Err(early),
-        Stage::Done(begun) => whole(begun),
-    }
-}
-
-/// The bundle of these blocks, of which it is known that they are one.
-fn whole(begun: Begun) -> Result<Bundle, SpellError>
-    ensures ok { IfOk result (λ bundle. bundle ≡ record { primary = begun.primary; blocks = begun.blocks }) }
-    ensures found { IsBundle (record { primary = begun.primary; blocks = begun.blocks }) → IsOk result }
-{
-    match Bundle::of(begun.primary, begun.blocks) {
-        Ok(bundle) => Ok(bundle),
-        Err(_fault) => Err(SpellError::NoMemory),
+        Stage::Done(begun) => match Bundle::of(begun.primary, begun.blocks) {
+            Ok(bundle) => Ok(bundle),
+            // Never met: what a reader has taken is a bundle.
+            Err(_fault) => Err(early),
+        },
     }
 }

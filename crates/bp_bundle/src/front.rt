@@ -3,17 +3,18 @@
 ghost use Rattle.std.specs.Prelude.{◌≡◌, ◌%◌, ◌==◌};
 ghost use Rattle.cbor_profile.specs.Step.{Stands, Gives};
 ghost use Rattle.bp_crc.specs.Check.{check_bytes};
+ghost use Rattle.bp_crc.specs.Checking.{bytes_of};
 ghost use Rattle.bp_crc.specs.Item.{zeros};
 ghost use Rattle.bp_primary.specs.Flags.{is_fragment};
 ghost use Rattle.bp_bundle.specs.Step.{Fails, seen, nodes_seen, times_seen};
 ghost use Rattle.bp_bundle.specs.FirstFault.{nodes_at, times_at, piece_at, piece_if, primary_of, fields_at, primary_check, primary_at, front_at};
 
 use crate::at::At;
-use crate::check::{CheckBytes, Running};
 use crate::cursor::begin;
 use crate::parts::{check, check_type, id};
 use crate::token::{Token, argument};
-use bp_crc::CheckKind;
+use bp_crc::laws::what_is_fixed_names_the_kind;
+use bp_crc::{CheckBytes, CheckKind, Checking};
 use bp_eid::Eid;
 use bp_primary::{Piece, Primary};
 use cbor_profile::{Fault, SpellError};
@@ -124,12 +125,14 @@ fn fields(alloc: Global, here: At<'_>) -> Result<(Primary, At<'_>), SpellError>
 
 /// The check of a primary block.
 fn check_of(primary: &Primary) -> CheckBytes
-    ensures { result ≡ primary_check primary.now }
+    ensures { bytes_of result ≡ primary_check primary.now }
 {
-    let mut running = Running::new(primary.crc);
+    what_is_fixed_names_the_kind();
+    // Asked for so that the array is known to be short.
     let _size = primary.size();
-    primary.feed_with(primary.crc.zeros(), &mut running);
-    running.finish()
+    let mut checking = Checking::new(primary.crc);
+    primary.feed_with(primary.crc.zeros(), &mut checking);
+    checking.finish()
 }
 
 /// The byte 9f and the primary block.

@@ -3,11 +3,10 @@
 ghost use Rattle.std.specs.Prelude.{◌≡◌, ◌+◌, ◌^◌, ◌<◌, ◌≤◌, ℕ, List, [], IfSome, IsErrOf};
 ghost use Rattle.cbor_profile.specs.declared.TheConstants.{BUNDLE_LIMIT};
 ghost use Rattle.bp_outside.specs.Outside.{Rose};
-ghost use Rattle.bp_bundle.specs.Shape.{Contents};
 ghost use Rattle.bp_bundle.specs.Spelling.{IsBundle, spelling};
 ghost use Rattle.bp_bundle.specs.Taking.{Took};
 ghost use Rattle.bp_bundle.specs.BackToBack.{Reads};
-ghost use Rattle.bp_bundle.specs.Window.{FitsThere, IsWhole, fault_there, over_there};
+ghost use Rattle.bp_bundle.specs.Window.{FitsThere, HasWhole, fault_there, over_there};
 
 use crate::bundle::Bundle;
 use crate::laws;
@@ -28,7 +27,7 @@ fn fault_there(place: u64, error: SpellError) -> InputFault
             place: place + fault.place,
             reason: fault.reason,
         }),
-        SpellError::NoMemory => InputFault::NoMemory,
+        SpellError::NoMemory => InputFault::from(error),
     }
 }
 
@@ -47,17 +46,15 @@ fn over(place: u64, count: u64) -> Result<Option<Bundle>, InputFault>
 }
 
 /// The bundle that a reader has taken whole.
-fn whole(reader: Reader) -> Result<Option<Bundle>, InputFault>
-    ensures means { (bundle : Contents) → IsBundle bundle → Took reader (spelling bundle) → IsWhole (spelling bundle) result }
-    ensures quiet { IsErrOf result InputFault.Failed → ⊥ }
+fn whole(reader: Reader) -> Bundle
+    requires { HasWhole reader }
+    ensures means { (taken : List ℕ) → Took reader taken → taken ≡ spelling result }
+    ensures shape { IsBundle result }
 {
     laws::bundles_are_read_as_spelled();
     match reader.finish() {
-        Ok(bundle) => {
-            bundle.size();
-            Ok(Some(bundle))
-        }
-        Err(_error) => Err(InputFault::NoMemory),
+        Ok(bundle) => bundle,
+        Err(_error) => unreachable!(),
     }
 }
 
@@ -88,7 +85,7 @@ pub(crate) fn read_next<S: Source>(
             Ok(fed) => {
                 window.take(fed.taken);
                 if fed.done {
-                    return whole(reader);
+                    return Ok(Some(whole(reader)));
                 }
                 count += fed.taken as u64;
             }

@@ -11,15 +11,12 @@ ghost use Rattle.bp_bundle.specs.Faults.{shape_fault};
 ghost use Rattle.bp_bundle.specs.Tokens.{Cursor};
 ghost use Rattle.bp_bundle.specs.FirstFault.{read_bundle, read_only};
 ghost use Rattle.bp_bundle.specs.Edits.{check_size, with_crc};
-ghost use Rattle.bp_bundle.specs.Prefix.{IsCorrect, IsCut, IsFaulty, IsUnlimited};
 ghost use Rattle.bp_crc.specs.declared.kind.CheckKind.{CheckKind};
 ghost use Rattle.bp_crc.specs.declared.kind.CheckKind.TheVariants as kinds;
 ghost use Rattle.bp_blocks.specs.declared.block.Block.{Block};
 
 use bp_eid::laws::{answers_stay_the_same, ids_are_read_as_spelled};
-use cbor_profile::laws::{
-    heads_are_judged_from_the_left, heads_are_read_as_spelled, tokens_are_read_as_spelled,
-};
+use cbor_profile::laws::{heads_are_judged_from_the_left, tokens_are_read_as_spelled};
 
 /// What is spelled as a bundle is read as that bundle, whatever follows it; and what is read as a bundle is spelled so and
 /// keeps the rules, where the bytes are below 256.
@@ -69,25 +66,6 @@ pub fn early_ends_are_within_the_limit()
     ensures place { (bytes : List ℕ) (fault : Fault) → read_bundle bytes ≡ Err fault → fault.reason ≡ Truncated → fault.place ≡ length bytes }
     ensures within { (bytes : List ℕ) (fault : Fault) → read_bundle bytes ≡ Err fault → fault.reason ≡ Truncated → length bytes < BUNDLE_LIMIT + 8 }
 {}
-
-/// The bytes before the faulty token begin the spelling of some bundle, aside from this profile's limits on blocks and
-/// bytes, and with that token no bundle's spelling begins. Bytes that end too early are such a beginning, and behind it a
-/// token that isn't whole. One exception: a dtn id's text of fewer than three bytes is refused only at its content, and
-/// not at its head.
-pub fn faulty_tokens_stand_behind_a_correct_prefix()
-    ensures before { (bytes : List ℕ) (fault : Fault) → ((i : ℕ) → slice_index bytes i < 256) → read_bundle bytes ≡ Err fault → fault.reason ≢ Truncated
-        → IsCorrect (take fault.place bytes) }
-    ensures cut { (bytes : List ℕ) (fault : Fault) → ((i : ℕ) → slice_index bytes i < 256) → read_bundle bytes ≡ Err fault → fault.reason ≡ Truncated
-        → IsCut bytes }
-    ensures with_it { (bytes : List ℕ) (fault : Fault) → ((i : ℕ) → slice_index bytes i < 256) → read_bundle bytes ≡ Err fault → fault.reason ≢ Truncated
-        → IsFaulty (take fault.place bytes) (drop fault.place bytes) }
-    ensures bundles { (bundle : Contents) → IsBundle bundle → IsUnlimited bundle }
-{
-    heads_are_read_as_spelled();
-    heads_are_judged_from_the_left();
-    tokens_are_read_as_spelled();
-    ids_are_read_as_spelled();
-}
 
 /// With another check a block has as many bytes fewer and more as the checks are: none, 3 or 5. Without a check it never has
 /// more.

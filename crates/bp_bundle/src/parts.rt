@@ -3,7 +3,7 @@
 ghost use Rattle.std.specs.Prelude.{◌≡◌, ◌==◌};
 ghost use Rattle.cbor_profile.specs.Step.{Stands, Gives};
 ghost use Rattle.bp_bundle.specs.Step.{Fails, seen};
-ghost use Rattle.bp_bundle.specs.FirstFault.{id_at, kind_of, check_type_at, check_string_at, check_at};
+ghost use Rattle.bp_bundle.specs.FirstFault.{id_at, check_type_at, check_string_at, check_at};
 
 use crate::at::At;
 use crate::cursor::content;
@@ -24,18 +24,7 @@ pub(crate) fn id(alloc: Global, here: At<'_>) -> Result<(Eid, At<'_>), SpellErro
             place: here.place + fault.place,
             reason: fault.reason,
         })),
-        Err(SpellError::NoMemory) => Err(SpellError::NoMemory),
-    }
-}
-
-/// The check of this type.
-fn kind_of(number: u64) -> CheckKind
-    ensures { result ≡ kind_of number }
-{
-    match number {
-        0 => CheckKind::None,
-        1 => CheckKind::Crc16,
-        _ => CheckKind::Crc32c,
+        Err(error) => Err(error),
     }
 }
 
@@ -45,7 +34,7 @@ pub(crate) fn check_type(checked: bool, here: At<'_>) -> Result<(CheckKind, At<'
     ensures { Stands (λ x. (x.0, seen x.1)) result (check_type_at checked (seen here.entry)) }
 {
     let (number, after) = argument(&[], Token::CheckType { checked }, here)?;
-    Ok((kind_of(number), after))
+    Ok((CheckKind::of_number(number), after))
 }
 
 /// A byte string with just these bytes.

@@ -9,7 +9,7 @@ ghost use Rattle.bp_bundle.specs.Faults.{is_misnumbered, may_have, has_number, h
 
 use bp_blocks::Block;
 use bp_primary::Primary;
-use cbor_profile::{BUNDLE_LIMIT, List};
+use cbor_profile::BUNDLE_LIMIT;
 
 /// The most canonical blocks that a bundle has here.
 pub(crate) const MOST_BLOCKS: usize = 64;
@@ -143,17 +143,8 @@ pub fn spelled_size(primary: &Primary, blocks: &[Block]) -> u64
     size
 }
 
-/// How many bytes the spelling has, or the last u64 where there are more.
-pub(crate) fn size_of(primary: &Primary, blocks: &List<Block>) -> u64
-    ensures size { result ≡ min (length (spelling (record { primary = primary.now; blocks = blocks.now }))) (2 ^ 64 - 1) }
-    ensures primary { IsPrimary primary.now }
-    ensures blocks { All IsBlock blocks.now }
-{
-    spelled_size(primary, blocks.items())
-}
-
 /// How many bytes spell the bundle of these blocks, or the first fault of their shape.
-fn size_or_fault(primary: &Primary, blocks: &[Block]) -> Result<u64, ShapeFault>
+pub(crate) fn bundle_size(primary: &Primary, blocks: &[Block]) -> Result<u64, ShapeFault>
     ensures ok { IfOk result (λ size. IsBundle (record { primary = primary.now; blocks = blocks.now })
         × (size ≡ length (spelling (record { primary = primary.now; blocks = blocks.now })))) }
     ensures exact { MatchResult result (λ _. shape_fault (record { primary = primary.now; blocks = blocks.now }) ≡ None)
@@ -165,15 +156,4 @@ fn size_or_fault(primary: &Primary, blocks: &[Block]) -> Result<u64, ShapeFault>
         Some(fault) => Err(fault),
         None => Ok(size),
     }
-}
-
-/// How many bytes spell the bundle of these blocks, or the first fault of their shape.
-pub(crate) fn bundle_size(primary: &Primary, blocks: &List<Block>) -> Result<u64, ShapeFault>
-    ensures ok { IfOk result (λ size. IsBundle (record { primary = primary.now; blocks = blocks.now })
-        × (size ≡ length (spelling (record { primary = primary.now; blocks = blocks.now })))) }
-    ensures exact { MatchResult result (λ _. shape_fault (record { primary = primary.now; blocks = blocks.now }) ≡ None)
-        (λ fault. shape_fault (record { primary = primary.now; blocks = blocks.now }) ≡ Some fault) }
-    ensures found { IsBundle (record { primary = primary.now; blocks = blocks.now }) → IsOk result }
-{
-    size_or_fault(primary, blocks.items())
 }

@@ -3,13 +3,13 @@
 ghost use Rattle.std.specs.Prelude.{◌≡◌, ◌<◌, ◌≤◌, ◌++◌, length};
 ghost use Rattle.cbor_profile.specs.declared.TheConstants.{BUNDLE_LIMIT};
 ghost use Rattle.bp_bundle.specs.HeaderText.{header_text};
-ghost use Rattle.bp_bundle.specs.Running.{Runs};
+ghost use Rattle.bp_crc.specs.Checking.{StandsFor, StandsFor-prop, bytes_of, kind_of};
 ghost use Rattle.bp_bundle.specs.FirstFault.{block_check};
 
 use crate::at::At;
-use crate::check::{CheckBytes, Running};
 use crate::header::Header;
 use bp_blocks::Block;
+use bp_crc::{CheckBytes, Checking};
 use bp_primary::Primary;
 use cbor_profile::{Bytes, List, SpellError};
 
@@ -29,11 +29,12 @@ pub(crate) struct Open {
     /// What has come of the body.
     pub(crate) body: Bytes,
     /// The check over the header and the body so far.
-    pub(crate) running: Running,
+    pub(crate) checking: Checking,
     pub(crate) ghost room: { length begun.blocks < 64 },
     pub(crate) ghost small: { header.len < BUNDLE_LIMIT },
     pub(crate) ghost within: { length body ≤ header.len },
-    pub(crate) ghost runs: { Runs header.crc running (header_text header ++ body) },
+    pub(crate) ghost kind: { kind_of checking ≡ header.crc },
+    pub(crate) ghost stands: { StandsFor checking (header_text header ++ body) } by { StandsFor-prop checking (header_text header ++ body) },
 }
 
 /// A block whose body is whole.
@@ -43,7 +44,7 @@ pub(crate) struct Closing {
     pub(crate) block: Block,
     pub(crate) check: CheckBytes,
     pub(crate) ghost room: { length begun.blocks < 64 },
-    pub(crate) ghost checks: { check ≡ block_check block },
+    pub(crate) ghost checks: { bytes_of check ≡ block_check block },
 }
 
 /// Where the reader stands in a bundle.
@@ -61,17 +62,6 @@ pub(crate) enum Stage {
     Done(Begun),
 }
 
-/// What a step came to.
-#[derive(Drop)]
-pub(crate) enum Step<'a> {
-    /// There is more to read here.
-    On(Stage, At<'a>),
-    /// More bytes are wanted than are here, or the bundle is done.
-    Wait(Stage, At<'a>),
-    /// Reading stops for good.
-    Stop(Stage, SpellError),
-}
-
 /// What all steps over some bytes came to.
 #[derive(Drop)]
 pub(crate) enum Outcome<'a> {
@@ -80,5 +70,14 @@ pub(crate) enum Outcome<'a> {
     /// The bundle has ended here.
     End(Begun, At<'a>),
     /// Reading stops for good.
-    Stop(Stage, SpellError),
+    Stop(SpellError),
+}
+
+/// What a step came to.
+#[derive(Drop)]
+pub(crate) enum Step<'a> {
+    /// There is more to read here.
+    On(Stage, At<'a>),
+    /// It was the last over these bytes.
+    Last(Outcome<'a>),
 }

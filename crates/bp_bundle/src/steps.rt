@@ -4,6 +4,8 @@ ghost use Rattle.std.specs.Prelude.{◌≡◌, ◌+◌, ◌≤◌, ◌++◌, ◌
 ghost use Rattle.bp_bundle.specs.Step.{Fails, seen};
 ghost use Rattle.bp_bundle.specs.FirstFault.{block_of};
 ghost use Rattle.bp_bundle.specs.Machine.{resume, Steps};
+ghost use Rattle.bp_bundle.specs.Tokens.{Cursor};
+ghost use Rattle.bp_bundle.specs.declared.stage.Stage.{Stage};
 ghost use Rattle.bp_bundle.specs.declared.stage.Stage.TheVariants as stages;
 
 use crate::at::At;
@@ -13,7 +15,7 @@ use crate::cursor::end;
 use crate::front::front;
 use crate::parts::check;
 use crate::shape::is_payload;
-use crate::stage::{Begun, Closing, Open, Stage, Step};
+use crate::stage::{Begun, Closing, Open, Outcome, Stage, Step};
 use cbor_profile::{List, NoMemory, Reason, SpellError};
 use std::alloc::Global;
 
@@ -25,12 +27,19 @@ pub(crate) fn stopped<'a>(stage: Stage, here: At<'a>, error: SpellError) -> Step
     cbor_profile::laws::heads_are_judged_from_the_left();
     bp_eid::laws::answers_stay_the_same();
     match error {
-        SpellError::NoMemory => Step::Stop(stage, SpellError::NoMemory),
+        SpellError::NoMemory => Step::Last(Outcome::Stop(error)),
         SpellError::Fault(fault) => match fault.reason {
-            Reason::Truncated => Step::Wait(stage, here),
-            _ => Step::Stop(stage, SpellError::Fault(fault)),
+            Reason::Truncated => Step::Last(Outcome::Wait(stage, here)),
+            _ => Step::Last(Outcome::Stop(error)),
         },
     }
+}
+
+/// Reading stops for want of memory.
+fn out_of_memory<'a>(error: NoMemory) -> Step<'a>
+    ensures { (stage : Stage) (cursor : Cursor) → Steps stage cursor result }
+{
+    Step::Last(Outcome::Stop(SpellError::from(error)))
 }
 
 /// Reads the begin of a bundle and its primary block.
@@ -70,13 +79,13 @@ pub(crate) fn at_body<'a>(block: Open, here: At<'a>) -> Step<'a>
     let wanted = (block.header.len - block.body.len() as u64) as usize;
     if here.rest.len() < wanted {
         return match absorbed(block, here.rest) {
-            Ok(next) => Step::Wait(Stage::Body(next), here.past(here.rest.len())),
-            Err(NoMemory) => Step::Stop(Stage::Front, SpellError::NoMemory),
+            Ok(next) => { Step::Last(Outcome::Wait(Stage::Body(next), here.past(here.rest.len()))) }
+            Err(error) => out_of_memory(error),
         };
     }
     match absorbed(block, &here.rest[..wanted]) {
         Ok(next) => Step::On(Stage::Tail(closed(next)), here.past(wanted)),
-        Err(NoMemory) => Step::Stop(Stage::Front, SpellError::NoMemory),
+        Err(error) => out_of_memory(error),
     }
 }
 
@@ -91,13 +100,13 @@ pub(crate) fn at_tail<'a>(closing: Closing, here: At<'a>) -> Step<'a>
         Ok(rest) if is_payload(&closing.block) => match end(rest) {
             Err(fault) => stopped(Stage::Tail(closing), here, SpellError::Fault(fault)),
             Ok(rest) => match pushed(closing) {
-                Ok(begun) => Step::On(Stage::Done(begun), rest),
-                Err(NoMemory) => Step::Stop(Stage::Front, SpellError::NoMemory),
+                Ok(begun) => Step::Last(Outcome::End(begun, rest)),
+                Err(error) => out_of_memory(error),
             },
         },
         Ok(rest) => match pushed(closing) {
             Ok(begun) => Step::On(Stage::Header(begun), rest),
-            Err(NoMemory) => Step::Stop(Stage::Front, SpellError::NoMemory),
+            Err(error) => out_of_memory(error),
         },
     }
 }
@@ -111,6 +120,6 @@ pub(crate) fn step<'a>(alloc: Global, stage: Stage, here: At<'a>) -> Step<'a>
         Stage::Header(begun) => at_header(alloc, begun, here),
         Stage::Body(block) => at_body(block, here),
         Stage::Tail(closing) => at_tail(closing, here),
-        Stage::Done(begun) => Step::Wait(Stage::Done(begun), here),
+        Stage::Done(begun) => Step::Last(Outcome::End(begun, here)),
     }
 }

@@ -13,7 +13,7 @@ use cbor_profile::{BUNDLE_LIMIT, Fault, Head, Reason, head_of_token};
 
 /// A head, by where it stands in a bundle.
 #[derive(Clone, Copy, Debug, PartialEq, Eq)]
-pub(crate) enum Token {
+pub enum Token {
     /// The head of the primary block's array.
     PrimaryArray,
     Version,

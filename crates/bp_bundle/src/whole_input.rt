@@ -3,7 +3,6 @@
 ghost use Rattle.std.specs.Prelude.{◌≡◌, ◌+◌, ◌<◌, ◌≤◌, ℕ, List, Option, [], length, Ok, IfOk, IfSome, IsErrOf};
 ghost use Rattle.cbor_profile.specs.declared.TheConstants.{BUNDLE_LIMIT};
 ghost use Rattle.bp_outside.specs.Outside.{Rose};
-ghost use Rattle.bp_bundle.specs.Spelling.{IsBundle};
 ghost use Rattle.bp_bundle.specs.WholeInput.{Answered, HasTaken, HasEnded, Stepped, TakesAtMost, count, fault_of_error, most_taken};
 ghost use Rattle.cbor_profile.specs.declared.fault.Reason.TheVariants.{Trailing};
 ghost use Rattle.bp_bundle.specs.declared.whole_input.InputFault.{InputFault};
@@ -13,7 +12,7 @@ use crate::bundle::Bundle;
 use crate::laws;
 use crate::reader::Reader;
 use bp_outside::Source;
-use cbor_profile::{Fault, Reason, SpellError};
+use cbor_profile::{Fault, NoMemory, Reason, SpellError};
 use std::alloc::Global;
 
 /// Why an input isn't read.
@@ -28,7 +27,7 @@ pub enum InputFault {
 }
 
 /// How many bytes are asked for at once.
-const PIECE: usize = 65536;
+pub(crate) const PIECE: usize = 65536;
 
 /// The fault of bytes after a bundle of so many.
 fn trailing(place: u64) -> InputFault
@@ -40,12 +39,22 @@ fn trailing(place: u64) -> InputFault
     })
 }
 
-fn fault_of(error: SpellError) -> InputFault
-    ensures { result ≡ fault_of_error error }
-{
-    match error {
-        SpellError::Fault(fault) => InputFault::Fault(fault),
-        SpellError::NoMemory => InputFault::NoMemory,
+impl From<SpellError> for InputFault {
+    ghost from_gives = { λ error fault. fault ≡ fault_of_error error };
+
+    fn from(error: SpellError) -> InputFault {
+        match error {
+            SpellError::Fault(fault) => InputFault::Fault(fault),
+            SpellError::NoMemory => InputFault::NoMemory,
+        }
+    }
+}
+
+impl From<NoMemory> for InputFault {
+    ghost from_gives = { λ _ fault. fault ≡ InputFault.NoMemory };
+
+    fn from(_error: NoMemory) -> InputFault {
+        InputFault::NoMemory
     }
 }
 
@@ -85,7 +94,7 @@ fn take<S: Source>(
     match reader.feed(&buffer[..n]) {
         Ok(fed) if fed.done => Ok(Step::Done(fed.taken == n)),
         Ok(_) => Ok(Step::More),
-        Err(error) => Err(fault_of(error)),
+        Err(error) => Err(InputFault::from(error)),
     }
 }
 
@@ -108,7 +117,7 @@ fn ended<S: Source>(
     laws::bundles_have_one_spelling();
     let bundle = match reader.finish() {
         Ok(bundle) => bundle,
-        Err(error) => return Err(fault_of(error)),
+        Err(error) => return Err(InputFault::from(error)),
     };
     let size = bundle.size();
     if !all {
@@ -121,13 +130,6 @@ fn ended<S: Source>(
     }
 }
 
-/// A bundle keeps the rules of bundles.
-fn keeps_rules(bundle: &Bundle)
-    ensures { IsBundle bundle.now }
-{
-    bundle.size();
-}
-
 /// What the end of an input gives that ends before its bundle does.
 fn over(reader: Reader) -> Result<Bundle, InputFault>
     ensures means { (before now : Option (List ℕ)) → HasTaken before now reader → IfSome now (λ rest. rest ≡ []) → Answered before result }
@@ -135,11 +137,8 @@ fn over(reader: Reader) -> Result<Bundle, InputFault>
 {
     laws::bundles_are_read_as_spelled();
     match reader.finish() {
-        Ok(bundle) => {
-            keeps_rules(&bundle);
-            Ok(bundle)
-        }
-        Err(error) => Err(fault_of(error)),
+        Ok(bundle) => Ok(bundle),
+        Err(error) => Err(InputFault::from(error)),
     }
 }
 

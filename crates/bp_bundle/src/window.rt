@@ -6,13 +6,11 @@ ghost use Rattle.bp_outside.specs.Outside.{Rose, Taken};
 ghost use Rattle.bp_bundle.specs.BackToBack.{place};
 ghost use Rattle.bp_bundle.specs.Window.{Fills};
 
-use crate::whole_input::InputFault;
+use crate::whole_input::{InputFault, PIECE};
 use bp_outside::Source;
+use cbor_profile::NoMemory;
 use std::alloc::Global;
 use std::marker::Model;
-
-/// How many bytes are asked for at once.
-const PIECE: usize = 65536;
 
 /// Bytes that wait to be taken, and how many were read in all.
 #[derive(Drop)]
@@ -46,7 +44,7 @@ fn make_room(alloc: Global, buffer: &mut Vec<u8>) -> Result<(), InputFault>
     if buffer.is_empty() {
         match vec![in alloc; 0u8; PIECE] {
             Ok(room) => *buffer = room,
-            Err(_) => return Err(InputFault::NoMemory),
+            Err(error) => return Err(InputFault::from(NoMemory::from(error))),
         }
     }
     Ok(())

@@ -59,13 +59,6 @@ quotient low zero d = []
 quotient low (suc n) [] = []
 quotient low (suc n) (c ∷ rest) = c ∷ quotient low n (reduced low (c ∷ rest))
 
-length-quotient : (low : List Bool) (n : ℕ) (d : List Bool) → length d ≡ n + length low → length (quotient low n d) ≡ n
-unfolding quotient
-length-quotient low zero d e = refl
-length-quotient low (suc n) [] e = absurd (omega arith)
-length-quotient low (suc n) (c ∷ rest) e =
-    ap suc (length-quotient low n (reduced low (c ∷ rest)) (omega (arith, length-reduced low (c ∷ rest) (omega arith))))
-
 made-divided : (low : List Bool) (n : ℕ) (d : List Bool) → length d ≡ n + length low → d ≡ made (quotient low n d) low (divided low n d)
 unfolding quotient divided
 made-divided low zero d e = sym (made-nil low d)

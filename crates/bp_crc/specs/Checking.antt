@@ -1,5 +1,6 @@
 -- A check whose kind is known only when the program runs.
 use Rattle.std.specs.Prelude.{◌≡◌, ℕ, List, []}
+use Rattle.std.specs.Coded.{Coded-set, Unit-prop, coded_ℕ}
 use Rattle.bp_crc.specs.declared.kind.CheckKind.{CheckKind}
 use Rattle.bp_crc.specs.declared.kind.CheckKind.TheVariants as kinds
 use Rattle.bp_crc.specs.declared.checking.Checking.{Checking}
@@ -18,6 +19,12 @@ abbrev pub StandsFor : Checking → List ℕ → Type 0
 StandsFor running.None fed = Unit {0}
 StandsFor (running.Crc16 crc) fed = crc ≡ register_of 16 fed
 StandsFor (running.Crc32c crc) fed = crc ≡ register_of 32 fed
+
+-- in one way at most
+pub StandsFor-prop : (checking : Checking) (fed : List ℕ) → IsProp (StandsFor checking fed)
+StandsFor-prop running.None fed = Unit-prop
+StandsFor-prop (running.Crc16 crc) fed = Coded-set coded_ℕ crc (register_of 16 fed)
+StandsFor-prop (running.Crc32c crc) fed = Coded-set coded_ℕ crc (register_of 32 fed)
 
 abbrev pub bytes_of : CheckBytes → List ℕ
 bytes_of NoBytes = []

@@ -1,5 +1,5 @@
 -- A check as the last item of a block's array (RFC 9171, sections 4.3.1 and 4.3.2).
-use Rattle.std.specs.Prelude.{ℕ, List, [], ◌∷◌}
+use Rattle.std.specs.Prelude.{ℕ, ◌==◌, if◌then◌else◌, List, [], ◌∷◌}
 use Rattle.cbor_profile.specs.Put.{byte_string}
 use Rattle.bp_crc.specs.declared.kind.CheckKind.{CheckKind}
 use Rattle.bp_crc.specs.declared.kind.CheckKind.TheVariants.{None, Crc16, Crc32c}
@@ -9,6 +9,10 @@ abbrev pub check_type : CheckKind → ℕ
 check_type None = 0
 check_type Crc16 = 1
 check_type Crc32c = 2
+
+-- the check with a number; each number from 2 on is that of CRC-32C
+abbrev pub check_of : ℕ → CheckKind
+check_of number = if number == 0 then None else if number == 1 then Crc16 else Crc32c
 
 -- how many items a check is
 abbrev pub check_count : CheckKind → ℕ

@@ -54,7 +54,8 @@ impl Checking {
 
     /// The check over the bytes fed.
     pub fn finish(self) -> CheckBytes
-        ensures { (fed : List ℕ) → StandsFor self fed → bytes_of result ≡ check_bytes (kind_of self) fed }
+        ensures { (fed : List ℕ) → StandsFor self fed
+            → bytes_of result ≡ check_bytes (kind_of self) fed }
     {
         match self {
             Checking::None => CheckBytes::NoBytes,

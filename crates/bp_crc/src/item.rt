@@ -2,12 +2,23 @@
 
 ghost use Rattle.std.specs.Prelude.{◌≡◌, ◌≤◌, ◌++◌, length, OnOk, OnErr};
 ghost use Rattle.cbor_profile.specs.Feeds.{Feeds};
-ghost use Rattle.bp_crc.specs.Item.{check_type, check_count, check_item, zeros};
+ghost use Rattle.bp_crc.specs.Item.{check_of, check_type, check_count, check_item, zeros};
 
 use crate::kind::CheckKind;
 use cbor_profile::{Bytes, Feed, NoMemory, feed_bytes, put_bytes};
 
 impl CheckKind {
+    /// The kind of check with a number: each number from 2 on is that of CRC-32C.
+    pub fn of_number(number: u64) -> CheckKind
+        ensures { result ≡ check_of number }
+    {
+        match number {
+            0 => CheckKind::None,
+            1 => CheckKind::Crc16,
+            _ => CheckKind::Crc32c,
+        }
+    }
+
     /// The check type as a number: 0, 1 or 2.
     pub fn number(self) -> u64
         ensures { result ≡ check_type self }

@@ -12,12 +12,14 @@ ghost use Rattle.bp_crc.specs.declared.kind.CheckKind.{CheckKind};
 pub fn division_is_exact()
     ensures exact { (low dividend : List Bool) → length low ≤ length dividend
         → IsDivision low dividend (remainder low dividend) }
-    ensures only { (low dividend r : List Bool) → IsDivision low dividend r → r ≡ remainder low dividend }
+    ensures only { (low dividend r : List Bool) → IsDivision low dividend r
+        → r ≡ remainder low dividend }
 {}
 
 /// The check value is the complement of the remainder, by whatever division it is found.
 pub fn check_is_the_complement()
-    ensures { (w : ℕ) (bytes : List ℕ) (r : List Bool) → IsDivision (generator w) (dividend w bytes) r
+    ensures { (w : ℕ) (bytes : List ℕ) (r : List Bool)
+        → IsDivision (generator w) (dividend w bytes) r
         → check w bytes ≡ number_of (map not r) }
 {}
 

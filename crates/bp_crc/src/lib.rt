@@ -14,6 +14,3 @@ pub use cbor_profile::Feed;
 pub use checking::{CheckBytes, Checking};
 pub use kind::CheckKind;
 pub use value::Crc;
-
-#[cfg(test)]
-mod tests;

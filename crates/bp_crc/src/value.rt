@@ -41,7 +41,8 @@ impl<const BITS: usize> Crc<BITS> {
 
     /// The check value over the bytes fed. It fits in 2 bytes, or in 4.
     pub fn finish(self) -> u32
-        ensures value { (fed : List ℕ) → self.entry ≡ register_of BITS fed → result ≡ check BITS fed }
+        ensures value { (fed : List ℕ) → self.entry ≡ register_of BITS fed
+            → result ≡ check BITS fed }
         ensures within { result < 2 ^ BITS }
     {
         self.register ^ ones::<BITS>()

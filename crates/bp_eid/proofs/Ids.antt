@@ -14,7 +14,7 @@ use Rattle.bp_eid.specs.DtnText.{is_dtn_text, IsDtnText}
 use Rattle.bp_eid.specs.EndpointId.{scheme, specific_part, spelling, Fits}
 use Rattle.bp_eid.specs.Reading.{stops, head_at, pair_at, number_at, content_at, dtn_at, ipn_at, id_at}
 use Rattle.bp_eid.proofs.Steps.{IsBytes, bind_ok, passed, let_through, ok_is, Takes, Takes-then}
-use Rattle.bp_eid.proofs.Tokens.{HeadLaws, ReadsHead, spelled, took, head_again, head_means, pair_again, pair_means, number_again, number_means, content_again, content_means}
+use Rattle.bp_eid.proofs.Tokens.{TokenLaws, ReadsHead, spelled, took, head_again, head_means, pair_again, pair_means, number_again, number_means, content_again, content_means}
 
 first_of_both : (b c : Bool) → (b && c) ≡ true → b ≡ true
 first_of_both true c e = refl
@@ -26,11 +26,11 @@ length-dtn_text text rule = leb-true _ _ (first_of_both (leb (length text) 1024)
 
 -- ---- what is spelled is read
 
-null_again : (laws : HeadLaws) (rest : List ℕ) → dtn_at (uint 0 ++ rest) ≡ Ok (Null, rest)
+null_again : (laws : TokenLaws) (rest : List ℕ) → dtn_at (uint 0 ++ rest) ≡ Ok (Null, rest)
 unfolding dtn_at uint head_text
 null_again laws rest = let h = head_again laws (0 ∷ 3 ∷ []) (record { major = 0; value = 0 }) rest (omega arith, inl (omega arith)) refl in rw h refl
 
-dtn_again : (laws : HeadLaws) (text rest : List ℕ) → IsDtnText text → dtn_at (text_string text ++ rest) ≡ Ok (Dtn text, rest)
+dtn_again : (laws : TokenLaws) (text rest : List ℕ) → IsDtnText text → dtn_at (text_string text ++ rest) ≡ Ok (Dtn text, rest)
 unfolding dtn_at text_string head_text
 dtn_again laws text rest rule =
     let short = length-dtn_text text rule in
@@ -39,13 +39,13 @@ dtn_again laws text rest rule =
     let h = head_again laws (0 ∷ 3 ∷ []) (record { major = 3; value = length text }) (text ++ rest) (omega arith, inl (omega arith)) refl in
     ap dtn_at regrouped ∙ rw (h, len, content_again text rest rule) refl
 
-ipn_again : (laws : HeadLaws) (node service : ℕ) (rest : List ℕ) → node < 2 ^ 64 → service < 2 ^ 64 → ipn_at ((array_head 2 ++ (uint node ++ uint service)) ++ rest) ≡ Ok (Ipn node service, rest)
+ipn_again : (laws : TokenLaws) (node service : ℕ) (rest : List ℕ) → node < 2 ^ 64 → service < 2 ^ 64 → ipn_at ((array_head 2 ++ (uint node ++ uint service)) ++ rest) ≡ Ok (Ipn node service, rest)
 unfolding ipn_at
 ipn_again laws node service rest n s =
     let regrouped : (array_head 2 ++ (uint node ++ uint service)) ++ rest ≡ array_head 2 ++ (uint node ++ (uint service ++ rest)) = append_assoc (array_head 2) (uint node ++ uint service) rest ∙ ap (λ (x : List ℕ). array_head 2 ++ x) (append_assoc (uint node) (uint service) rest) in
     ap ipn_at regrouped ∙ rw (pair_again laws (uint node ++ (uint service ++ rest)), number_again laws node (uint service ++ rest) n, number_again laws service rest s) refl
 
-part_again : (laws : HeadLaws) (eid : Eid) (rest : List ℕ) → Fits eid
+part_again : (laws : TokenLaws) (eid : Eid) (rest : List ℕ) → Fits eid
     → cond (eqb (scheme eid) 1) (dtn_at (specific_part eid ++ rest)) (cond (eqb (scheme eid) 2) (ipn_at (specific_part eid ++ rest)) (stops (uint (scheme eid) ++ (specific_part eid ++ rest)) WrongValue)) ≡ Ok (eid, rest)
 part_again laws Null rest fits = null_again laws rest
 part_again laws (Dtn text) rest fits = dtn_again laws text rest fits
@@ -56,7 +56,7 @@ scheme-lt Null = omega arith
 scheme-lt (Dtn text) = omega arith
 scheme-lt (Ipn node service) = omega arith
 
-pub id_again : (laws : HeadLaws) (eid : Eid) (rest : List ℕ) → Fits eid → id_at (spelling eid ++ rest) ≡ Ok (eid, rest)
+pub id_again : (laws : TokenLaws) (eid : Eid) (rest : List ℕ) → Fits eid → id_at (spelling eid ++ rest) ≡ Ok (eid, rest)
 unfolding id_at spelling
 id_again laws eid rest fits =
     let tail = specific_part eid ++ rest in
@@ -77,7 +77,7 @@ reads_same number bytes x y h e = subst (Reads number bytes) e h
 pub null_or_text : (major : ℕ) → ((eqb 0 major || (eqb 3 major || false)) ≡ true) → eqb major 0 ≡ false → major ≡ 3
 null_or_text major among other = grind (arith, nat_tests)
 
-text_means : (laws : HeadLaws) (bytes : List ℕ) (head : Head) (rest : List ℕ) (x : Eid × List ℕ) → ReadsHead (0 ∷ 3 ∷ []) bytes head rest → head.major ≡ 3
+text_means : (laws : TokenLaws) (bytes : List ℕ) (head : Head) (rest : List ℕ) (x : Eid × List ℕ) → ReadsHead (0 ∷ 3 ∷ []) bytes head rest → head.major ≡ 3
     → (content_at head.value rest >>= λ text. Ok (Dtn text.0, text.1)) ≡ Ok x → Reads 1 bytes x
 unfolding text_string
 text_means laws bytes head rest x h three e =
@@ -91,7 +91,7 @@ pub chosen : {A : Type 0} (b : Bool) (x y z : A) → cond b x y ≡ z → ((b �
 chosen true x y z e = inl (refl, e)
 chosen false x y z e = inr (refl, e)
 
-null_means : (laws : HeadLaws) (bytes : List ℕ) (head : Head) (rest : List ℕ) (x : Eid × List ℕ) → ReadsHead (0 ∷ 3 ∷ []) bytes head rest → head.major ≡ 0
+null_means : (laws : TokenLaws) (bytes : List ℕ) (head : Head) (rest : List ℕ) (x : Eid × List ℕ) → ReadsHead (0 ∷ 3 ∷ []) bytes head rest → head.major ≡ 0
     → cond (eqb head.value 0) (Ok (Null, rest)) (stops bytes WrongValue) ≡ Ok x → Reads 1 bytes x
 unfolding uint
 null_means laws bytes head rest x h zero e =
@@ -99,7 +99,7 @@ null_means laws bytes head rest x h zero e =
     let text = spelled head 0 0 zero (eqb-true _ _ g.0) in
     reads_same 1 bytes (Null, rest) x (record { takes = took (0 ∷ 3 ∷ []) bytes head rest (uint 0) text h; fits = tt; number_is = refl }) (ok_is (Null, rest) x g.1)
 
-dtn_part_means : (laws : HeadLaws) (bytes : List ℕ) (head : Head) (rest : List ℕ) (x : Eid × List ℕ) → ReadsHead (0 ∷ 3 ∷ []) bytes head rest
+dtn_part_means : (laws : TokenLaws) (bytes : List ℕ) (head : Head) (rest : List ℕ) (x : Eid × List ℕ) → ReadsHead (0 ∷ 3 ∷ []) bytes head rest
     → cond (eqb head.major 0) (cond (eqb head.value 0) (Ok (Null, rest)) (stops bytes WrongValue)) (cond (ltb 1024 head.value) (stops bytes WrongValue) (content_at head.value rest >>= λ text. Ok (Dtn text.0, text.1))) ≡ Ok x
     → Reads 1 bytes x
 dtn_part_means laws bytes head rest x h e =
@@ -111,14 +111,14 @@ dtn_part_means laws bytes head rest x h e =
           text_means laws bytes head rest x h (null_or_text head.major h.among other.0) short.1
     ]
 
-dtn_means : (laws : HeadLaws) (bytes : List ℕ) (x : Eid × List ℕ) → IsBytes bytes → dtn_at bytes ≡ Ok x → Reads 1 bytes x
+dtn_means : (laws : TokenLaws) (bytes : List ℕ) (x : Eid × List ℕ) → IsBytes bytes → dtn_at bytes ≡ Ok x → Reads 1 bytes x
 unfolding dtn_at
 dtn_means laws bytes x fits e =
     let after = λ (head : Head × List ℕ). cond (eqb head.0.major 0) (cond (eqb head.0.value 0) (Ok (Null, head.1)) (stops bytes WrongValue)) (cond (ltb 1024 head.0.value) (stops bytes WrongValue) (content_at head.0.value head.1 >>= λ text. Ok (Dtn text.0, text.1))) in
     let b = bind_ok (head_at (0 ∷ 3 ∷ []) bytes) after x e in
     dtn_part_means laws bytes b.0.0 b.0.1 x (head_means laws (0 ∷ 3 ∷ []) bytes b.0 fits b.1) b.2
 
-ipn_means : (laws : HeadLaws) (bytes : List ℕ) (x : Eid × List ℕ) → IsBytes bytes → ipn_at bytes ≡ Ok x → Reads 2 bytes x
+ipn_means : (laws : TokenLaws) (bytes : List ℕ) (x : Eid × List ℕ) → IsBytes bytes → ipn_at bytes ≡ Ok x → Reads 2 bytes x
 unfolding ipn_at
 ipn_means laws bytes x fits e =
     let a = bind_ok (pair_at bytes) (λ rest. number_at rest >>= λ node. number_at node.1 >>= λ service. Ok (Ipn node.0 service.0, service.1)) x e in
@@ -131,7 +131,7 @@ ipn_means laws bytes x fits e =
     let all = Takes-then bytes (array_head 2) a.0 (uint b.0.0 ++ uint c.0.0) c.0.1 pair numbers in
     reads_same 2 bytes (Ipn b.0.0 c.0.0, c.0.1) x (record { takes = all; fits = (node.1, service.1); number_is = refl {a = 2} }) (ok_is (Ipn b.0.0 c.0.0, c.0.1) x c.2)
 
-part_means : (laws : HeadLaws) (number : ℕ) (rest bytes : List ℕ) (x : Eid × List ℕ) → IsBytes bytes
+part_means : (laws : TokenLaws) (number : ℕ) (rest bytes : List ℕ) (x : Eid × List ℕ) → IsBytes bytes
     → cond (eqb number 1) (dtn_at bytes) (cond (eqb number 2) (ipn_at bytes) (stops rest WrongValue)) ≡ Ok x → Reads number bytes x
 part_means laws number rest bytes x fits e =
     let R : ℕ → Type 0 = λ n. Reads n bytes x in
@@ -142,7 +142,7 @@ part_means laws number rest bytes x fits e =
           subst R (sym (eqb-true _ _ two.0)) (ipn_means laws bytes x fits two.1)
     ]
 
-pub id_means : (laws : HeadLaws) (bytes : List ℕ) (x : Eid × List ℕ) → IsBytes bytes → id_at bytes ≡ Ok x → (bytes ≡ spelling x.0 ++ x.1) × Fits x.0
+pub id_means : (laws : TokenLaws) (bytes : List ℕ) (x : Eid × List ℕ) → IsBytes bytes → id_at bytes ≡ Ok x → (bytes ≡ spelling x.0 ++ x.1) × Fits x.0
 unfolding id_at spelling
 id_means laws bytes x fits e =
     let after = λ (rest : List ℕ). number_at rest >>= λ number. cond (eqb number.0 1) (dtn_at number.1) (cond (eqb number.0 2) (ipn_at number.1) (stops rest WrongValue)) in
@@ -157,7 +157,7 @@ id_means laws bytes x fits e =
 
 -- ---- one spelling
 
-pub one_spelling : (laws : HeadLaws) (a b : Eid) (x y : List ℕ) → Fits a → Fits b → spelling a ++ x ≡ spelling b ++ y → (a ≡ b) × (x ≡ y)
+pub one_spelling : (laws : TokenLaws) (a b : Eid) (x y : List ℕ) → Fits a → Fits b → spelling a ++ x ≡ spelling b ++ y → (a ≡ b) × (x ≡ y)
 one_spelling laws a b x y ha hb e =
     let same : (a, x) ≡ (b, y) = ok_is (a, x) (b, y) (sym (id_again laws a x ha) ∙ (ap id_at e ∙ id_again laws b y hb)) in
     (ap (λ (p : Eid × List ℕ). p.0) same, ap (λ (p : Eid × List ℕ). p.1) same)

@@ -9,7 +9,7 @@ use Rattle.bp_eid.specs.declared.stop.Stop.{Stop}
 use Rattle.bp_eid.specs.EndpointId.{spelling, Fits}
 use Rattle.bp_eid.specs.Reading.{answer, id_at, read_id, Answers}
 use Rattle.bp_eid.proofs.Steps.{IsBytes, ok_is}
-use Rattle.bp_eid.proofs.Tokens.{HeadLaws}
+use Rattle.bp_eid.proofs.Tokens.{TokenLaws}
 use Rattle.bp_eid.proofs.Ids.{id_again, id_means}
 
 -- an id, and how many bytes spell it
@@ -23,25 +23,25 @@ spelled_found bytes eid rest parts fits =
     let front : take (length (spelling eid)) bytes ≡ spelling eid = ap (take (length (spelling eid))) parts ∙ take_at (spelling eid) rest (length (spelling eid)) refl in
     (omega arith, rw len front, fits)
 
-answer_found : (laws : HeadLaws) (bytes : List ℕ) (r : Result (Eid × List ℕ) Stop) (at : EidAt) → IsBytes bytes → id_at bytes ≡ r → answer bytes r ≡ Ok at → IsFound bytes at
+answer_found : (laws : TokenLaws) (bytes : List ℕ) (r : Result (Eid × List ℕ) Stop) (at : EidAt) → IsBytes bytes → id_at bytes ≡ r → answer bytes r ≡ Ok at → IsFound bytes at
 answer_found laws bytes (Ok x) at fits e is =
     let m = id_means laws bytes x fits e in
     let same : record { eid = x.0; len = length bytes - length x.1 } ≡ at = cc in
     subst (IsFound bytes) same (spelled_found bytes x.0 x.1 m.0 m.1)
 answer_found laws bytes (Err stop) at fits e is = absurd cc
 
-pub is_found : (laws : HeadLaws) (bytes : List ℕ) (r : Result EidAt SpellError) → IsBytes bytes → Answers r (read_id bytes) → IfOk r (IsFound bytes)
+pub is_found : (laws : TokenLaws) (bytes : List ℕ) (r : Result EidAt SpellError) → IsBytes bytes → Answers r (read_id bytes) → IfOk r (IsFound bytes)
 unfolding read_id
 is_found laws bytes (Ok at) fits h = answer_found laws bytes (id_at bytes) at fits refl h
 is_found laws bytes (Err e) fits h = tt
 
-read_again : (laws : HeadLaws) (eid : Eid) (rest : List ℕ) → Fits eid → read_id (spelling eid ++ rest) ≡ Ok (record { eid = eid; len = length (spelling eid) })
+read_again : (laws : TokenLaws) (eid : Eid) (rest : List ℕ) → Fits eid → read_id (spelling eid ++ rest) ≡ Ok (record { eid = eid; len = length (spelling eid) })
 unfolding read_id
 read_again laws eid rest fits =
     let len : length (spelling eid ++ rest) - length rest ≡ length (spelling eid) = omega (arith, length-append (spelling eid) rest) in
     rw (id_again laws eid rest fits, len) refl
 
-pub is_read : (laws : HeadLaws) (bytes : List ℕ) (r : Result EidAt SpellError) (eid : Eid) (rest : List ℕ) → Answers r (read_id bytes) → Fits eid → bytes ≡ spelling eid ++ rest
+pub is_read : (laws : TokenLaws) (bytes : List ℕ) (r : Result EidAt SpellError) (eid : Eid) (rest : List ℕ) → Answers r (read_id bytes) → Fits eid → bytes ≡ spelling eid ++ rest
     → Answers r (Ok (record { eid = eid; len = length (spelling eid) }))
 is_read laws bytes r eid rest h fits parts = subst (Answers r) (ap read_id parts ∙ read_again laws eid rest fits) h
 

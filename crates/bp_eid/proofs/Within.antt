@@ -12,7 +12,7 @@ use Rattle.bp_eid.specs.declared.eid.Eid.TheVariants.{Null, Dtn, Ipn}
 use Rattle.bp_eid.specs.declared.stop.Stop.{Stop}
 use Rattle.bp_eid.specs.DtnText.{is_dtn_text}
 use Rattle.bp_eid.specs.Reading.{stops, at_token, head_at, pair_at, number_at, content_at, dtn_at, ipn_at, id_at}
-use Rattle.bp_eid.proofs.Tokens.{is_among, among_ok, after_ok}
+use Rattle.cbor_profile.proofs.Tokens.{is_among, among_ok, after_ok}
 
 -- what is left of a value, or the stop
 unfoldable pub IsWithin : {A : Type 0} → (A → ℕ) → ℕ → Result A Stop → Type 0

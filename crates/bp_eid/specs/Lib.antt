@@ -3,4 +3,3 @@ pub mod EndpointId
 pub mod TextAnswer
 pub mod Reading
 pub mod Step
-pub mod Prefix

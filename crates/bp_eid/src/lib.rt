@@ -13,6 +13,4 @@ pub use dtn_text::DtnText;
 pub use eid::Eid;
 pub use reading::EidAt;
 pub use stop::{ReadError, Stop};
-
-#[cfg(test)]
-mod tests;
+pub use text::number_of;

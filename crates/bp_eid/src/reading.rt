@@ -11,12 +11,12 @@ use crate::dtn_text::{DtnText, TEXT_LIMIT, is_dtn_text};
 use crate::eid::Eid;
 use crate::laws::ids_are_read_as_spelled;
 use crate::stop::{ReadError, Stop};
-use cbor_profile::laws::heads_are_read_as_spelled;
+use cbor_profile::laws::tokens_are_read_as_spelled;
 use cbor_profile::{Head, NoMemory, Reason, SpellError, head_of_token};
 use std::alloc::Global;
 
 /// An id at the front of a byte list.
-#[derive(Debug, Drop)]
+#[derive(Debug, PartialEq, Eq, Drop)]
 pub struct EidAt {
     pub eid: Eid,
     /// How many bytes spell the id.
@@ -144,8 +144,10 @@ fn owned(alloc: Global, found: Found) -> Result<Eid, NoMemory>
 
 /// The id that the bytes are, one id and nothing more.
 fn whole(bytes: &[u8]) -> Option<Found>
-    ensures means { IfSome result (λ found. (bytes.now ≡ spelling (eid_of found)) × Fits (eid_of found)) }
-    ensures found { (eid : Eid) → Fits eid → bytes.now ≡ spelling eid → IsSomeAnd result (λ found. eid_of found ≡ eid) }
+    ensures means { IfSome result
+        (λ found. (bytes.now ≡ spelling (eid_of found)) × Fits (eid_of found)) }
+    ensures found { (eid : Eid) → Fits eid → bytes.now ≡ spelling eid
+        → IsSomeAnd result (λ found. eid_of found ≡ eid) }
 {
     ids_are_read_as_spelled();
     match find(bytes) {
@@ -163,7 +165,7 @@ pub fn id(alloc: Global, bytes: &[u8]) -> Result<(Eid, &[u8]), ReadError>
     match find(bytes) {
         Ok((found, rest)) => match owned(alloc, found) {
             Ok(eid) => Ok((eid, rest)),
-            Err(NoMemory) => Err(ReadError::NoMemory),
+            Err(error) => Err(error.into()),
         },
         Err(stop) => Err(ReadError::Stop(stop)),
     }
@@ -188,30 +190,31 @@ impl Eid {
     /// Reads the id at the front. Bytes may follow it. A fault is the first that reading from the left meets.
     pub fn read(alloc: Global, bytes: &[u8]) -> Result<EidAt, SpellError>
         // What is read is spelled so.
-        ensures means { IfOk result (λ at. (at.len ≤ length bytes.now) × (take at.len bytes.now ≡ spelling at.eid) × Fits at.eid) }
+        ensures means { IfOk result (λ at. (at.len ≤ length bytes.now)
+            × (take at.len bytes.now ≡ spelling at.eid) × Fits at.eid) }
         // What is spelled so is read, whatever follows it.
         ensures found { (eid : Eid) (rest : List ℕ) → Fits eid → bytes.now ≡ spelling eid ++ rest
             → Answers result (Ok (record { eid = eid; len = length (spelling eid) })) }
         // Which fault it is. Memory runs out only where an id with a text stands.
         ensures exact { Answers result (read_id bytes.now) }
     {
-        heads_are_read_as_spelled();
+        tokens_are_read_as_spelled();
         front(alloc, bytes)
     }
 
     /// The id that the bytes are, one id and nothing more, or none where they aren't one.
     pub fn read_whole(alloc: Global, bytes: &[u8]) -> Result<Option<Eid>, NoMemory>
-        ensures means { IfOk result (λ found. IfSome found (λ eid. (bytes.now ≡ spelling eid) × Fits eid)) }
-        ensures found { (eid : Eid) → Fits eid → bytes.now ≡ spelling eid → IfOk result (λ found. found ≡ Some eid) }
+        ensures means { IfOk result
+            (λ found. IfSome found (λ eid. (bytes.now ≡ spelling eid) × Fits eid)) }
+        ensures found { (eid : Eid) → Fits eid → bytes.now ≡ spelling eid
+            → IfOk result (λ found. found ≡ Some eid) }
         // Memory runs out only where they are an id with a text.
-        ensures memory { OnErr result ((eid : Eid) × HasText eid × Fits eid × (bytes.now ≡ spelling eid)) }
+        ensures memory { OnErr result ((eid : Eid) × HasText eid × Fits eid
+            × (bytes.now ≡ spelling eid)) }
     {
         let Some(found) = whole(bytes) else {
             return Ok(None);
         };
-        match owned(alloc, found) {
-            Ok(eid) => Ok(Some(eid)),
-            Err(NoMemory) => Err(NoMemory),
-        }
+        Ok(Some(owned(alloc, found)?))
     }
 }

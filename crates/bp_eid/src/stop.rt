@@ -4,6 +4,8 @@ ghost use Rattle.std.specs.Prelude.{◌≡◌, ◌≤◌};
 ghost use Rattle.bp_eid.specs.declared.stop.ReadError.TheVariants as errors;
 
 use cbor_profile::{Fault, NoMemory, Reason};
+use std::error::Error;
+use std::fmt;
 
 /// A token that isn't permitted: why not, and how many bytes are left where it begins.
 #[derive(Clone, Copy, Debug, PartialEq, Eq)]
@@ -39,6 +41,21 @@ pub enum ReadError {
     /// No memory was left.
     NoMemory,
 }
+
+impl fmt::Display for ReadError {
+    fn fmt<W: fmt::Write>(&self, f: &mut fmt::Formatter<W>) -> fmt::Result {
+        match self {
+            ReadError::Stop(stop) => {
+                let left = stop.left;
+                let reason = stop.reason.name();
+                write!(f, "{reason} with {left} bytes left")
+            }
+            ReadError::NoMemory => f.write_str("out of memory"),
+        }
+    }
+}
+
+impl Error for ReadError {}
 
 impl From<Stop> for ReadError {
     ghost from_gives = { λ stop e. e ≡ errors.Stop stop };

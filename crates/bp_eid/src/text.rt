@@ -33,8 +33,8 @@ fn is_padded(digits: &[u8]) -> bool
     *first == b'+' || (*first == b'0' && !rest.is_empty())
 }
 
-/// The number whose decimal digits these are, without leading zeros.
-fn number_of(digits: &str) -> Option<u64>
+/// The number of 64 bits whose decimal digits these are, without leading zeros, if there is one. Takes no memory.
+pub fn number_of(digits: &str) -> Option<u64>
     ensures { IsNumberOf digits.now result }
 {
     if is_padded(digits.as_bytes()) {
@@ -56,7 +56,8 @@ fn numbers_of(part: &str) -> Option<(u64, u64)>
 
 /// What follows these bytes at the front.
 fn after<'a>(text: &'a str, front: &str) -> Option<&'a str>
-    ensures { MatchOption result ((rest : List ℕ) → text.now ≢ front.now ++ rest) (λ rest. text.now ≡ front.now ++ rest.now) }
+    ensures { MatchOption result ((rest : List ℕ) → text.now ≢ front.now ++ rest)
+        (λ rest. text.now ≡ front.now ++ rest.now) }
 {
     text.strip_prefix(front)
 }
@@ -89,10 +90,13 @@ impl Eid {
     /// The id whose text this is, or none where it is the text of no id.
     pub fn parse_text(alloc: Global, text: &str) -> Result<Option<Eid>, NoMemory>
         // What is found has this text.
-        ensures some { IfOk result (λ found. IfSome found (λ eid. Fits eid × (text.now ≡ text_form eid))) }
-        ensures none { IfOk result (λ found. IfNone found ((eid : Eid) → Fits eid → text.now ≡ text_form eid → ⊥)) }
+        ensures some { IfOk result
+            (λ found. IfSome found (λ eid. Fits eid × (text.now ≡ text_form eid))) }
+        ensures none { IfOk result
+            (λ found. IfNone found ((eid : Eid) → Fits eid → text.now ≡ text_form eid → ⊥)) }
         // Every text is found, unless memory runs out, and it runs out only at the text of an id of the scheme dtn.
-        ensures found { (eid : Eid) → Fits eid → text.now ≡ text_form eid → IfOk result (λ found. found ≡ Some eid) }
+        ensures found { (eid : Eid) → Fits eid → text.now ≡ text_form eid
+            → IfOk result (λ found. found ≡ Some eid) }
         ensures memory { OnErr result (IsIdText text.now) }
     {
         parse(alloc, text)

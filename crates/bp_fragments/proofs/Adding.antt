@@ -10,9 +10,9 @@ use Rattle.bp_primary.specs.declared.primary.Primary.{Primary}
 use Rattle.bp_primary.specs.declared.primary.Piece.{Piece}
 use Rattle.bp_primary.specs.Flags.{is_fragment}
 use Rattle.bp_blocks.specs.declared.block.Block.{Block}
-use Rattle.bp_bundle.specs.Shape.{Contents}
+use Rattle.bp_bundle.specs.Shape.{Contents, payload}
 use Rattle.bp_bundle.specs.Spelling.{IsBundle}
-use Rattle.bp_fragments.specs.Fragment.{piece_of, offset_of, total_of, payload}
+use Rattle.bp_fragments.specs.Fragment.{piece_of, offset_of, total_of}
 use Rattle.bp_fragments.specs.Cut.{below}
 use Rattle.bp_fragments.specs.Known.{byte_of, byte_at, whole_length, known}
 use Rattle.bp_fragments.specs.Agreement.{frame, is_first, Gathered, gathered, is_other_bundle, is_other_frame, clash_from, or_next, refusal_of, refusal, IsRefusal, IsPiece, Together, Agree}

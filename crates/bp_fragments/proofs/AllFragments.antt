@@ -5,9 +5,8 @@ use Rattle.std.proofs.lemmas.List.{map_push}
 use Rattle.std.proofs.Math.Nat.{div-add-mod, mul-le-mul_left, mul_comm}
 use Rattle.cbor_profile.specs.declared.TheConstants.{BUNDLE_LIMIT}
 use Rattle.bp_primary.specs.Flags.{is_fragment}
-use Rattle.bp_bundle.specs.Shape.{Contents}
+use Rattle.bp_bundle.specs.Shape.{Contents, payload}
 use Rattle.bp_bundle.specs.Spelling.{IsBundle, spelling}
-use Rattle.bp_fragments.specs.Fragment.{payload}
 use Rattle.bp_fragments.specs.Cut.{below, cut, cut_fault, fragment_at, must_not_fragment, piece_count}
 use Rattle.bp_fragments.specs.CutAnswer.{IsCutFault, IsMakeFault, refused_at_once}
 use Rattle.bp_fragments.specs.declared.cut.CutFault.{CutFault}

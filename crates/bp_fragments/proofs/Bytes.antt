@@ -5,8 +5,8 @@ use Rattle.std.specs.List.{slice_get}
 use Rattle.std.specs.Option.{option_or, option_flatten}
 use Rattle.std.proofs.lemmas.Bool.{lt-ltb, le-ltb, ltb-false, eqb-true}
 use Rattle.std.proofs.lemmas.Option.{slice_get_within}
-use Rattle.bp_bundle.specs.Shape.{Contents}
-use Rattle.bp_fragments.specs.Fragment.{offset_of, payload}
+use Rattle.bp_bundle.specs.Shape.{Contents, payload}
+use Rattle.bp_fragments.specs.Fragment.{offset_of}
 use Rattle.bp_fragments.specs.Known.{byte_of, byte_at, whole_length, known}
 use Rattle.bp_fragments.specs.Agreement.{clash_with, clash_from}
 use Rattle.bp_fragments.specs.declared.fault.AddFault.{AddFault}

@@ -7,7 +7,7 @@ use Rattle.std.proofs.lemmas.Bool.{cases_lt, lt-ltb, ltb-true, leb-true, le-leb,
 use Rattle.std.proofs.lemmas.List.{take_more, take_all, take-append-le}
 use Rattle.std.proofs.lemmas.List.Folds.{list_any-append}
 use Rattle.std.proofs.lemmas.Option.{slice_get-get_or, slice_get-map, get_or_from_slice_get, slice_get_within}
-use Rattle.bp_bundle.proofs.Shapes.{position_none}
+use Rattle.bp_bundle.proofs.ShapeRules.{position_none}
 use Rattle.bp_fragments.specs.Cut.{below}
 use Rattle.bp_fragments.specs.Spans.{is_in, is_covered, seen_at, seen, AreWithin}
 use Rattle.bp_fragments.specs.Overlaid.{Overlaid}

@@ -12,10 +12,10 @@ use Rattle.bp_primary.specs.declared.primary.Primary.{Primary}
 use Rattle.bp_primary.specs.declared.primary.Piece.{Piece}
 use Rattle.bp_primary.specs.Flags.{is_fragment}
 use Rattle.bp_blocks.specs.declared.block.Block.{Block}
-use Rattle.bp_bundle.specs.Shape.{Contents}
+use Rattle.bp_bundle.specs.Shape.{Contents, body_of, payload}
 use Rattle.bp_bundle.specs.Spelling.{IsBundle}
 use Rattle.bp_bundle.specs.Edits.{body_at}
-use Rattle.bp_fragments.specs.Fragment.{offset_of, total_of, body_of, payload, with_payload}
+use Rattle.bp_fragments.specs.Fragment.{offset_of, total_of, with_payload}
 use Rattle.bp_fragments.specs.Cut.{below, cut, fragment_at, fragment_flags, fragment_flags_are, fragment_primary, whole_flags, whole_flags_are, whole_primary, is_kept, piece_count}
 use Rattle.bp_fragments.specs.Known.{byte_of, byte_at, whole_length, known}
 use Rattle.bp_fragments.specs.Agreement.{frame, is_first, IsPiece, Together, Agree}

@@ -9,14 +9,14 @@ use Rattle.std.proofs.lemmas.Option.{slice_get-get_or, get_or_from_slice_get}
 use Rattle.cbor_profile.specs.declared.TheConstants.{BUNDLE_LIMIT}
 use Rattle.bp_primary.specs.Flags.{is_fragment}
 use Rattle.bp_blocks.specs.declared.block.Block.{Block}
-use Rattle.bp_bundle.specs.Shape.{Contents}
+use Rattle.bp_bundle.specs.Shape.{Contents, payload}
 use Rattle.bp_bundle.specs.Spelling.{IsBundle, IsPayload, IsNumbered, spelling}
 use Rattle.bp_bundle.specs.Faults.{is_payload, shape_fault}
 use Rattle.bp_bundle.specs.declared.shape.ShapeFault.{ShapeFault}
-use Rattle.bp_bundle.proofs.Shapes.{Keeps, Differ, Once}
-use Rattle.bp_bundle.proofs.Unfaulted.{keeps_no_fault, is_payload_true}
-use Rattle.bp_bundle.proofs.Edited.{kept, keys_of_body}
-use Rattle.bp_fragments.specs.Fragment.{payload, with_payload, is_replicated}
+use Rattle.bp_bundle.proofs.ShapeRules.{Keeps, Differ, Once}
+use Rattle.bp_bundle.proofs.NoFaultOfShape.{keeps_no_fault, is_payload_true}
+use Rattle.bp_bundle.proofs.EditsLeaveBundles.{kept, keys_of_body}
+use Rattle.bp_fragments.specs.Fragment.{with_payload, is_replicated}
 use Rattle.bp_fragments.specs.Cut.{cut_fault, fragment_at, is_kept, must_not_fragment}
 use Rattle.bp_fragments.specs.CutAnswer.{IsCutFault, refused_at_once}
 use Rattle.bp_fragments.specs.declared.cut.CutFault.{CutFault}

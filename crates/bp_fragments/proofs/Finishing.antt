@@ -11,14 +11,14 @@ use Rattle.bp_primary.specs.declared.primary.Primary.{Primary}
 use Rattle.bp_primary.specs.Spelling.{IsPrimary}
 use Rattle.bp_blocks.specs.declared.block.Block.{Block}
 use Rattle.bp_blocks.specs.Spelling.{IsBlock}
-use Rattle.bp_bundle.specs.Shape.{Contents}
+use Rattle.bp_bundle.specs.Shape.{Contents, body_of}
 use Rattle.bp_bundle.specs.Spelling.{IsBundle, spelling}
 use Rattle.bp_bundle.specs.Edits.{body_at}
-use Rattle.bp_bundle.proofs.Shapes.{Keeps, position_none}
+use Rattle.bp_bundle.proofs.ShapeRules.{Keeps, position_none}
 use Rattle.bp_bundle.proofs.Sizes.{whole_size}
-use Rattle.bp_bundle.proofs.Unfaulted.{keeps_of, bundle_of}
-use Rattle.bp_bundle.proofs.Edited.{SameKeys, kept, keys_of_body}
-use Rattle.bp_fragments.specs.Fragment.{offset_of, body_of, with_payload}
+use Rattle.bp_bundle.proofs.NoFaultOfShape.{keeps_of, bundle_of}
+use Rattle.bp_bundle.proofs.EditsLeaveBundles.{SameKeys, kept, keys_of_body}
+use Rattle.bp_fragments.specs.Fragment.{offset_of, with_payload}
 use Rattle.bp_fragments.specs.Cut.{whole_primary}
 use Rattle.bp_fragments.specs.Known.{byte_at, whole_length, known}
 use Rattle.bp_fragments.specs.Agreement.{frame, is_first, Gathered, gathered, Agree}

@@ -13,14 +13,14 @@ use Rattle.bp_primary.specs.Fragment.{fragment_items}
 use Rattle.bp_primary.specs.Spelling as primaries
 use Rattle.bp_primary.specs.Spelling.{nodes, times}
 use Rattle.bp_blocks.specs.declared.block.Block.{Block}
-use Rattle.bp_bundle.specs.Shape.{Contents}
+use Rattle.bp_bundle.specs.Shape.{Contents, body_of, payload}
 use Rattle.bp_bundle.specs.Spelling.{IsBundle, spelling}
 use Rattle.bp_bundle.proofs.Sizes.{spelled, whole_size}
 use Rattle.bp_bundle.specs.Edits.{check_size}
-use Rattle.bp_fragments.specs.Fragment.{body_of, payload}
 use Rattle.bp_fragments.specs.Cut.{fragment_at, fragment_flags, fragment_primary, is_kept}
 use Rattle.cbor_profile.proofs.Sizes.{head_at_least, head_one, five_at_most, uint_at_most, head_grows, length-bytes}
-use Rattle.bp_fragments.proofs.Sizes.{payload_changed, primary_size, kept_less}
+use Rattle.bp_bundle.proofs.BlockSizes.{primary_size}
+use Rattle.bp_fragments.proofs.Sizes.{payload_changed, kept_less}
 use Rattle.bp_fragments.proofs.Cutting.{kept_last}
 
 -- ---- how long a fragment is

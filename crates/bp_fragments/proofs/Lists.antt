@@ -6,7 +6,7 @@ use Rattle.std.specs.Prelude.{slice_range}
 use Rattle.std.specs.List.{slice_get, position}
 use Rattle.std.proofs.lemmas.List.{map_push, length-take}
 use Rattle.std.proofs.lemmas.List.Quantifiers.{position-Some}
-use Rattle.bp_bundle.proofs.Shapes.{position_none}
+use Rattle.bp_bundle.proofs.ShapeRules.{position_none}
 use Rattle.bp_fragments.specs.Cut.{below}
 
 pub same_list : {X : Type 0} (xs ys : List X) → ((k : ℕ) → slice_get xs k ≡ slice_get ys k) → xs ≡ ys

@@ -11,8 +11,8 @@ use Rattle.bp_eid.specs.declared.eid.Eid.{Eid}
 use Rattle.bp_primary.specs.declared.primary.Primary.{Primary}
 use Rattle.bp_primary.specs.Flags.{is_fragment}
 use Rattle.bp_blocks.specs.declared.block.Block.{Block}
-use Rattle.bp_bundle.specs.Shape.{Contents}
-use Rattle.bp_fragments.specs.Fragment.{offset_of, total_of, payload, with_payload}
+use Rattle.bp_bundle.specs.Shape.{Contents, payload}
+use Rattle.bp_fragments.specs.Fragment.{offset_of, total_of, with_payload}
 use Rattle.bp_fragments.specs.Cut.{below, whole_primary, whole_flags, whole_flags_are}
 use Rattle.bp_fragments.specs.Known.{byte_at, known}
 use Rattle.bp_fragments.specs.Agreement.{frame, is_first, gathered, is_other_bundle, is_other_frame, clash_from, or_next, refusal_of, refusal, Together, Agree}

@@ -8,9 +8,9 @@ use Rattle.std.proofs.lemmas.List.{length-map}
 use Rattle.std.proofs.lemmas.Option.{slice_get-map}
 use Rattle.bp_primary.specs.declared.primary.Primary.{Primary}
 use Rattle.bp_blocks.specs.declared.block.Block.{Block}
-use Rattle.bp_bundle.specs.Shape.{Contents}
+use Rattle.bp_bundle.specs.Shape.{Contents, body_of, payload}
 use Rattle.bp_bundle.specs.Spelling.{IsBundle}
-use Rattle.bp_fragments.specs.Fragment.{offset_of, total_of, body_of, payload, with_payload}
+use Rattle.bp_fragments.specs.Fragment.{offset_of, total_of, with_payload}
 use Rattle.bp_fragments.specs.Cut.{whole_primary}
 use Rattle.bp_fragments.specs.Known.{byte_of, whole_length, known}
 use Rattle.bp_fragments.specs.Agreement.{frame, is_first, Agree}

@@ -10,8 +10,8 @@ use Rattle.bp_primary.specs.declared.primary.Primary.{Primary}
 use Rattle.bp_primary.specs.declared.primary.Piece.{Piece}
 use Rattle.bp_primary.specs.Flags.{is_fragment}
 use Rattle.bp_blocks.specs.declared.block.Block.{Block}
-use Rattle.bp_bundle.specs.Shape.{Contents}
-use Rattle.bp_fragments.specs.Fragment.{piece_of, offset_of, total_of, payload, with_payload}
+use Rattle.bp_bundle.specs.Shape.{Contents, payload}
+use Rattle.bp_fragments.specs.Fragment.{piece_of, offset_of, total_of, with_payload}
 use Rattle.bp_fragments.specs.Known.{byte_of, known}
 use Rattle.bp_fragments.specs.declared.fault.AddFault.{AddFault}
 use Rattle.bp_fragments.specs.declared.fault.AddFault.TheVariants.{NotFragment, OtherBundle, PastTotal, OverLimit, OtherBlocks, Disagree, TooMany, NoMemory}

@@ -6,10 +6,10 @@ use Rattle.bp_primary.specs.declared.primary.Primary.{Primary}
 use Rattle.bp_primary.specs.declared.primary.Piece.{Piece}
 use Rattle.bp_primary.specs.Flags.{is_fragment}
 use Rattle.bp_blocks.specs.declared.block.Block.{Block}
-use Rattle.bp_bundle.specs.Shape.{Contents}
+use Rattle.bp_bundle.specs.Shape.{Contents, payload}
 use Rattle.bp_bundle.specs.Spelling.{spelling}
 use Rattle.bp_bundle.specs.Faults.{is_payload}
-use Rattle.bp_fragments.specs.Fragment.{payload, with_payload, is_replicated}
+use Rattle.bp_fragments.specs.Fragment.{with_payload, is_replicated}
 use Rattle.bp_fragments.specs.declared.cut.CutFault.{CutFault}
 use Rattle.bp_fragments.specs.declared.cut.CutFault.TheVariants.{IsFragment, MustNotFragment, PieceZero, TooMany, TooLong}
 

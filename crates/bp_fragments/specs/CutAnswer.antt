@@ -2,9 +2,8 @@
 use Rattle.std.specs.Prelude.{◌≡◌, ℕ, ◌*◌, ◌<◌, ◌==◌, nat_lt, if◌then◌else◌, length, Option, Some, None}
 use Rattle.bp_primary.specs.Flags.{is_fragment}
 use Rattle.cbor_profile.specs.declared.TheConstants.{BUNDLE_LIMIT}
-use Rattle.bp_bundle.specs.Shape.{Contents}
+use Rattle.bp_bundle.specs.Shape.{Contents, payload}
 use Rattle.bp_bundle.specs.Spelling.{spelling}
-use Rattle.bp_fragments.specs.Fragment.{payload}
 use Rattle.bp_fragments.specs.Cut.{must_not_fragment}
 use Rattle.bp_fragments.specs.declared.cut.CutFault.{CutFault}
 use Rattle.bp_fragments.specs.declared.cut.CutFault.TheVariants.{IsFragment, MustNotFragment, PieceZero, TooMany, TooLong, NoMemory}

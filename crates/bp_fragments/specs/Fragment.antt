@@ -18,14 +18,6 @@ offset_of bundle = (piece_of bundle.primary).offset
 abbrev pub total_of : Contents → ℕ
 total_of bundle = (piece_of bundle.primary).total
 
--- The payload: the body of the last block, which is the payload block.
-abbrev pub body_of : Option Block → List ℕ
-body_of None = []
-body_of (Some block) = block.body
-
-abbrev pub payload : Contents → List ℕ
-payload bundle = body_of (slice_get bundle.blocks (length bundle.blocks - 1))
-
 -- the blocks with this payload
 abbrev pub with_payload : List ℕ → List Block → List Block
 with_payload body blocks = body_at (length blocks - 1) body blocks

@@ -4,9 +4,9 @@ use Rattle.std.specs.List.{position, slice_get}
 use Rattle.cbor_profile.specs.declared.TheConstants.{BUNDLE_LIMIT}
 use Rattle.bp_primary.specs.declared.primary.Primary.{Primary}
 use Rattle.bp_blocks.specs.declared.block.Block.{Block}
-use Rattle.bp_bundle.specs.Shape.{Contents}
+use Rattle.bp_bundle.specs.Shape.{Contents, payload}
 use Rattle.bp_bundle.specs.Spelling.{spelling}
-use Rattle.bp_fragments.specs.Fragment.{offset_of, total_of, payload, with_payload}
+use Rattle.bp_fragments.specs.Fragment.{offset_of, total_of, with_payload}
 use Rattle.bp_fragments.specs.Cut.{whole_primary}
 use Rattle.bp_fragments.specs.Known.{byte_of, known}
 use Rattle.bp_fragments.specs.Agreement.{Gathered, gathered}

@@ -2,8 +2,8 @@
 use Rattle.std.specs.Prelude.{ℕ, ◌-◌, nat_lt, if◌then◌else◌, List, [], ◌∷◌, map, Option, None}
 use Rattle.std.specs.List.{slice_get}
 use Rattle.std.specs.Option.{option_or}
-use Rattle.bp_bundle.specs.Shape.{Contents}
-use Rattle.bp_fragments.specs.Fragment.{offset_of, total_of, payload}
+use Rattle.bp_bundle.specs.Shape.{Contents, payload}
+use Rattle.bp_fragments.specs.Fragment.{offset_of, total_of}
 use Rattle.bp_fragments.specs.Cut.{below}
 
 -- the byte that a fragment has at a place of the whole payload, if it covers the place

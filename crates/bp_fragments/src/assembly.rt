@@ -63,7 +63,9 @@ impl Assembly {
     pub fn add(&mut self, piece: Bundle) -> Result<(), AddFault>
         // The first reason against it is answered, or there is none, and it is taken.
         ensures means { (pieces : List Contents) → Took self.old pieces
-            → MatchResult result (λ _. (refusal pieces piece ≡ None) × Took self.new (pieces ++ piece ∷ [])) (λ fault. IsRefusal fault (refusal pieces piece)) }
+            → MatchResult result (λ _. (refusal pieces piece ≡ None)
+            × Took self.new (pieces ++ piece ∷ []))
+            (λ fault. IsRefusal fault (refusal pieces piece)) }
         ensures stays { OnErr result (self.new ≡ self.old) }
     {
         let part = part_of(self.alloc, piece);
@@ -89,7 +91,7 @@ impl Assembly {
             part.body.as_slice(),
         ) {
             Ok(()) => {}
-            Err(NoMemory) => return Err(AddFault::NoMemory),
+            Err(error) => return Err(error.into()),
         }
         let Part {
             primary,
@@ -114,7 +116,8 @@ fn keep_payload(
     requires long { AsLongAs first.now (length payload.old) }
     requires same { ForSome first.now (λ first. (piece_of first).total ≡ piece.total) }
     requires within { piece.offset + length body.now ≤ piece.total }
-    ensures ok { OnOk result (Overlaid (known_before first.now piece.total payload.old) piece.offset body.now payload.new) }
+    ensures ok { OnOk result (Overlaid (known_before first.now piece.total payload.old) piece.offset
+        body.now payload.new) }
     ensures err { OnErr result (payload.new ≡ payload.old) }
 {
     if first.is_some() {

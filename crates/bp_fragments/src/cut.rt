@@ -4,7 +4,8 @@ ghost use Rattle.std.specs.Prelude.{◌≡◌, ◌*◌, ◌<◌, ◌≤◌, ◌+
 ghost use Rattle.cbor_profile.specs.declared.TheConstants.{BUNDLE_LIMIT};
 ghost use Rattle.bp_bundle.specs.Spelling.{IsBundle, spelling};
 ghost use Rattle.bp_primary.specs.Flags.{is_fragment};
-ghost use Rattle.bp_fragments.specs.Fragment.{payload, with_payload, is_replicated};
+ghost use Rattle.bp_bundle.specs.Shape.{payload};
+ghost use Rattle.bp_fragments.specs.Fragment.{with_payload, is_replicated};
 ghost use Rattle.bp_fragments.specs.Cut.{cut, cut_fault, fragment_at, fragment_flags, fragment_primary, is_kept, must_not_fragment, piece_count};
 ghost use Rattle.bp_fragments.specs.CutAnswer.{IsCutFault, IsMakeFault, refused_at_once};
 
@@ -32,18 +33,18 @@ pub enum CutFault {
     NoMemory,
 }
 
-/// The most fragments of one bundle.
-const MOST_PIECES: u64 = 256;
+impl From<NoMemory> for CutFault {
+    ghost use Rattle.bp_fragments.specs.declared.cut.CutFault.{CutFault};
 
-/// The payload: the body of the last block.
-fn payload(bundle: &Bundle) -> &[u8]
-    ensures { result.now ≡ payload bundle.now }
-{
-    match bundle.blocks().last() {
-        Some(block) => block.body.as_slice(),
-        None => &[],
+    ghost from_gives = { λ _ fault. fault ≡ CutFault.NoMemory };
+
+    fn from(_error: NoMemory) -> CutFault {
+        CutFault::NoMemory
     }
 }
+
+/// The most fragments of one bundle.
+const MOST_PIECES: u64 = 256;
 
 /// Bundle flag 0x4 (RFC 9171, section 4.2.3).
 fn must_not_fragment(flags: u64) -> bool
@@ -73,7 +74,7 @@ fn refused_at_once(bundle: &Bundle, size: u64) -> Option<CutFault>
     if size == 0 {
         return Some(CutFault::PieceZero);
     }
-    if is_too_many(size, payload(bundle).len() as u64) {
+    if is_too_many(size, bundle.payload().len() as u64) {
         return Some(CutFault::TooMany);
     }
     None
@@ -107,10 +108,7 @@ fn copy_kept(
     if !is_kept(index, block) {
         return Ok(());
     }
-    match copies.push(block.copy(alloc)?) {
-        Ok(()) => Ok(()),
-        Err(_block) => Err(NoMemory),
-    }
+    copies.append(block.copy(alloc)?)
 }
 
 /// Copies of the blocks that stand in the fragment with this index.
@@ -119,10 +117,7 @@ fn copy_blocks(alloc: Global, blocks: &[Block], index: u64) -> Result<List<Block
 {
     let mut copies = List::new(alloc);
     for block in blocks {
-        match copy_kept(alloc, &mut copies, index, block) {
-            Ok(()) => {}
-            Err(NoMemory) => return Err(NoMemory),
-        }
+        copy_kept(alloc, &mut copies, index, block)?;
     }
     Ok(copies)
 }
@@ -147,15 +142,16 @@ fn fragment_blocks(
     index: u64,
     body: Bytes,
 ) -> Result<List<Block>, NoMemory>
-    ensures { IfOk result (λ blocks. blocks ≡ with_payload body (filter (is_kept index) bundle.now.blocks)) }
+    ensures { IfOk result (λ blocks. blocks
+        ≡ with_payload body (filter (is_kept index) bundle.now.blocks)) }
 {
     let _size = bundle.size();
     let blocks = bundle.blocks();
     let last = blocks.len() - 1;
     let mut copies = copy_blocks(alloc, &blocks[..last], index)?;
-    match copies.push(with_body(&blocks[last], body)) {
+    match copies.append(with_body(&blocks[last], body)) {
         Ok(()) => Ok(copies),
-        Err(_block) => Err(NoMemory),
+        Err(error) => Err(error),
     }
 }
 
@@ -204,10 +200,11 @@ fn fragment_parts(
     index: u64,
 ) -> Result<(Primary, List<Block>), NoMemory>
     requires { index * size ≤ length (payload bundle.now) }
-    ensures { IfOk result (λ parts. record { primary = parts.0; blocks = parts.1 } ≡ fragment_at bundle.now size index) }
+    ensures { IfOk result (λ parts. record { primary = parts.0; blocks = parts.1 }
+        ≡ fragment_at bundle.now size index) }
 {
     let _size = bundle.size();
-    let payload = payload(bundle);
+    let payload = bundle.payload();
     let offset = index * size;
     let piece = Piece {
         offset,
@@ -229,9 +226,7 @@ fn fragment_at(alloc: Global, bundle: &Bundle, size: u64, index: u64) -> Result<
         (λ fault. IsMakeFault fault (fragment_at bundle.now size index)) }
 {
     let _size = bundle.size();
-    let Ok((primary, blocks)) = fragment_parts(alloc, bundle, size, index) else {
-        return Err(CutFault::NoMemory);
-    };
+    let (primary, blocks) = fragment_parts(alloc, bundle, size, index)?;
     match Bundle::of(primary, blocks) {
         Ok(fragment) => {
             let _size = fragment.size();
@@ -243,7 +238,8 @@ fn fragment_at(alloc: Global, bundle: &Bundle, size: u64, index: u64) -> Result<
 
 /// Cuts a bundle into fragments with so many bytes of payload each, the last with fewer.
 pub fn fragment(alloc: Global, bundle: &Bundle, size: u64) -> Result<List<Bundle>, CutFault>
-    ensures means { MatchResult result (λ fragments. (cut_fault bundle.now size ≡ None) × (fragments ≡ cut bundle.now size))
+    ensures means { MatchResult result
+        (λ fragments. (cut_fault bundle.now size ≡ None) × (fragments ≡ cut bundle.now size))
         (λ fault. IsCutFault fault (cut_fault bundle.now size)) }
 {
     let _size = bundle.size();
@@ -256,19 +252,16 @@ pub fn fragment(alloc: Global, bundle: &Bundle, size: u64) -> Result<List<Bundle
 /// The fragments of a bundle against whose cutting nothing stands but the length of the first.
 fn all_fragments(alloc: Global, bundle: &Bundle, size: u64) -> Result<List<Bundle>, CutFault>
     requires free { None ≡ refused_at_once bundle.now size }
-    ensures means { MatchResult result (λ fragments. (cut_fault bundle.now size ≡ None) × (fragments ≡ cut bundle.now size))
+    ensures means { MatchResult result
+        (λ fragments. (cut_fault bundle.now size ≡ None) × (fragments ≡ cut bundle.now size))
         (λ fault. IsCutFault fault (cut_fault bundle.now size)) }
 {
     let _size = bundle.size();
-    let count = piece_count(size, payload(bundle).len() as u64);
+    let count = piece_count(size, bundle.payload().len() as u64);
     let mut fragments = List::new(alloc);
     for index in 0..count {
         match fragment_at(alloc, bundle, size, index) {
-            Ok(fragment) => {
-                if fragments.push(fragment).is_err() {
-                    return Err(CutFault::NoMemory);
-                }
-            }
+            Ok(fragment) => fragments.append(fragment)?,
             Err(fault) => return Err(fault),
         }
     }

@@ -1,5 +1,8 @@
 //! Why a fragment isn't added, and why fragments aren't joined.
 
+ghost use Rattle.std.specs.Prelude.{◌≡◌};
+
+use cbor_profile::NoMemory;
 use thiserror::Error;
 
 /// Why a fragment wasn't added: memory ran out, or the first of the others that holds.
@@ -24,6 +27,16 @@ pub enum AddFault {
     NoMemory,
 }
 
+impl From<NoMemory> for AddFault {
+    ghost use Rattle.bp_fragments.specs.declared.fault.AddFault.{AddFault};
+
+    ghost from_gives = { λ _ fault. fault ≡ AddFault.NoMemory };
+
+    fn from(_error: NoMemory) -> AddFault {
+        AddFault::NoMemory
+    }
+}
+
 /// Why fragments weren't joined: memory ran out, or the first of the others that holds.
 #[derive(Clone, Copy, Debug, PartialEq, Eq, Error)]
 pub enum FinishFault {
@@ -36,4 +49,14 @@ pub enum FinishFault {
     TooLong,
     #[error("out of memory")]
     NoMemory,
+}
+
+impl From<NoMemory> for FinishFault {
+    ghost use Rattle.bp_fragments.specs.declared.fault.FinishFault.{FinishFault};
+
+    ghost from_gives = { λ _ fault. fault ≡ FinishFault.NoMemory };
+
+    fn from(_error: NoMemory) -> FinishFault {
+        FinishFault::NoMemory
+    }
 }

@@ -46,7 +46,9 @@ fn whole_primary(alloc: Global, primary: &Primary) -> Result<Primary, NoMemory>
 
 /// Whether the spelling with a payload of so many bytes would pass the bundle limit. The frame's payload has none.
 fn is_too_long(primary: &Primary, frame: &[Block], total: u64) -> bool
-    ensures { IsTrue result ↔ (BUNDLE_LIMIT + 1 < length (spelling (record { primary = primary.now; blocks = frame.now })) + length (uint total) + total) }
+    ensures { IsTrue result ↔ (BUNDLE_LIMIT + 1
+        < length (spelling (record { primary = primary.now; blocks = frame.now }))
+        + length (uint total) + total) }
 {
     let size = spelled_size(primary, frame);
     size.saturating_add(uint_size(total)).saturating_add(total) > BUNDLE_LIMIT + 1
@@ -69,11 +71,12 @@ fn whole_within(
     frame: &Option<List<Block>>,
     total: u64,
 ) -> Result<Primary, FinishFault>
-    ensures { MatchResult result (λ primary. (primary ≡ whole_primary first.now) × (IsLong frame.now (whole_primary first.now) total → ⊥))
+    ensures { MatchResult result (λ primary. (primary ≡ whole_primary first.now)
+        × (IsLong frame.now (whole_primary first.now) total → ⊥))
         (λ fault. IsLongFault fault frame.now (whole_primary first.now) total) }
 {
     match whole_primary(alloc, first) {
-        Err(NoMemory) => Err(FinishFault::NoMemory),
+        Err(error) => Err(error.into()),
         Ok(primary) => {
             if is_long(&primary, frame, total) {
                 Err(FinishFault::TooLong)
@@ -86,7 +89,8 @@ fn whole_within(
 
 /// The bundle of these blocks with this payload, if it is one.
 fn bundle_of(primary: Primary, frame: Option<List<Block>>, payload: Payload) -> Option<Bundle>
-    ensures { (bundle : Contents) → IsWhole bundle primary frame payload → IsBundle bundle → result ≡ Some bundle }
+    ensures { (bundle : Contents) → IsWhole bundle primary frame payload → IsBundle bundle
+        → result ≡ Some bundle }
 {
     let mut blocks = frame?;
     if blocks.items().is_empty() {
@@ -103,7 +107,8 @@ impl Assembly {
     /// The primary block of the whole, or the first reason why the fragments aren't joined.
     fn ready(&self) -> Result<Primary, FinishFault>
         ensures { (pieces : List Contents) → Took self.now pieces
-            → MatchResult result (λ primary. joined pieces ≡ Ok (whole_with primary self.now)) (λ fault. IsJoinFault fault (joined pieces)) }
+            → MatchResult result (λ primary. joined pieces ≡ Ok (whole_with primary self.now))
+            (λ fault. IsJoinFault fault (joined pieces)) }
     {
         match &self.primary {
             None => Err(FinishFault::Empty),
@@ -118,7 +123,8 @@ impl Assembly {
 
     /// The whole with this primary block.
     fn close(self, primary: Primary) -> Result<Bundle, (Assembly, FinishFault)>
-        ensures { (pieces : List Contents) → Took self pieces → joined pieces ≡ Ok (whole_with primary self)
+        ensures { (pieces : List Contents) → Took self pieces
+            → joined pieces ≡ Ok (whole_with primary self)
             → MatchResult result (λ bundle. joined pieces ≡ Ok bundle) (λ _. ⊥) }
     {
         let Assembly {
@@ -138,8 +144,10 @@ impl Assembly {
     /// The bundle that the fragments are joined to. An error hands the assembly back as it was.
     pub fn finish(self) -> Result<Bundle, (Assembly, FinishFault)>
         ensures means { (pieces : List Contents) → Took self pieces
-            → MatchResult result (λ bundle. joined pieces ≡ Ok bundle) (λ kept. IsJoinFault kept.1 (joined pieces)) }
-        ensures stays { (pieces : List Contents) → Took self pieces → IfErr result (λ kept. kept.0 ≡ self) }
+            → MatchResult result (λ bundle. joined pieces ≡ Ok bundle)
+            (λ kept. IsJoinFault kept.1 (joined pieces)) }
+        ensures stays { (pieces : List Contents) → Took self pieces
+            → IfErr result (λ kept. kept.0 ≡ self) }
     {
         match self.ready() {
             Ok(primary) => self.close(primary),

@@ -3,7 +3,8 @@
 ghost use Rattle.std.specs.Prelude.{◌≡◌, ◌-◌, ◌<◌, length};
 ghost use Rattle.std.specs.List.{slice_get};
 ghost use Rattle.bp_bundle.specs.Spelling.{IsBundle};
-ghost use Rattle.bp_fragments.specs.Fragment.{body_of, payload, with_payload};
+ghost use Rattle.bp_bundle.specs.Shape.{body_of, payload};
+ghost use Rattle.bp_fragments.specs.Fragment.{with_payload};
 ghost use Rattle.bp_fragments.specs.Agreement.{frame};
 
 use bp_blocks::Block;

@@ -59,8 +59,11 @@ fn clash_in(bytes: &[u8], span: Span, offset: usize, piece: &[u8], end: usize) -
     requires end { end ≤ offset + length piece.now }
     ensures within { result ≤ end }
     ensures behind { offset ≤ result }
-    ensures same { (place : ℕ) → offset ≤ place → place < result → is_in span place ≡ true → slice_index bytes.now place ≡ slice_index piece.now (place - offset) }
-    ensures differs { result < end → (is_in span result ≡ true) × (slice_index bytes.now result ≢ slice_index piece.now (result - offset)) }
+    ensures same { (place : ℕ) → offset ≤ place → place < result → is_in span place ≡ true
+        → slice_index bytes.now place ≡ slice_index piece.now (place - offset) }
+    ensures differs { result < end
+        → (is_in span result ≡ true) × (slice_index bytes.now result
+        ≢ slice_index piece.now (result - offset)) }
 {
     let from = span.from.max(offset);
     let to = span.to.min(end);
@@ -77,9 +80,13 @@ fn clash_place(bytes: &[u8], covered: &[Span], offset: usize, piece: &[u8]) -> u
     requires fits { offset + length piece.now < 2 ^ 64 }
     ensures within { result ≤ offset + length piece.now }
     ensures behind { offset ≤ result }
-    ensures same { (place : ℕ) → offset ≤ place → place < result → is_covered covered.now place ≡ true → slice_index bytes.now place ≡ slice_index piece.now (place - offset) }
+    ensures same { (place : ℕ) → offset ≤ place → place < result
+        → is_covered covered.now place ≡ true
+        → slice_index bytes.now place ≡ slice_index piece.now (place - offset) }
     ensures differs { result < offset + length piece.now
-        → (is_covered covered.now result ≡ true) × (slice_index bytes.now result ≢ slice_index piece.now (result - offset)) × (result < length bytes.now) }
+        → (is_covered covered.now result ≡ true)
+        × (slice_index bytes.now result ≢ slice_index piece.now (result - offset))
+        × (result < length bytes.now) }
 {
     let mut end = offset + piece.len();
     for span in covered {
@@ -91,7 +98,8 @@ fn clash_place(bytes: &[u8], covered: &[Span], offset: usize, piece: &[u8]) -> u
 /// Writes the piece over the bytes from this place on.
 fn write_at(bytes: &mut [u8], offset: usize, piece: &[u8])
     requires { offset + length piece.now ≤ length bytes.old }
-    ensures { bytes.new ≡ take offset bytes.old ++ piece.now ++ drop (offset + length piece.now) bytes.old }
+    ensures { bytes.new ≡ take offset bytes.old ++ piece.now
+        ++ drop (offset + length piece.now) bytes.old }
 {
     let end = offset + piece.len();
     bytes[offset..end].copy_from_slice(piece);

@@ -50,7 +50,12 @@ pub(crate) fn refusal_of(
     count: usize,
     part: &Part,
 ) -> Option<AddFault>
-    ensures { result ≡ refusal_of (record { primary = first.now; frame = frame.now; known = payload.now; count = count }) part.now.primary part.now.frame part.now.body }
+    ensures { result ≡ refusal_of (record {
+      primary = first.now;
+      frame = frame.now;
+      known = payload.now;
+      count = count;
+    }) part.now.primary part.now.frame part.now.body }
 {
     if !part.primary.is_fragment() {
         return Some(AddFault::NotFragment);

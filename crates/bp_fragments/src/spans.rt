@@ -27,33 +27,36 @@ fn hull(a: Span, b: Span) -> Span
 
 /// Takes a span to the one that grows where they touch, else to those that stand apart.
 fn absorbed(apart: &mut List<Span>, whole: Span, span: Span) -> Result<Span, NoMemory>
-    ensures covers { IfOk result (λ after. (place : ℕ) → (is_covered apart.new place || is_in after place) ≡ ((is_covered apart.old place || is_in whole place) || is_in span place)) }
-    ensures within { IfOk result (λ after. (len : ℕ) → AreWithin apart.old len → whole.to ≤ len → span.to ≤ len → AreWithin apart.new len × (after.to ≤ len)) }
+    ensures covers { IfOk result (λ after. (place : ℕ)
+        → (is_covered apart.new place || is_in after place)
+        ≡ ((is_covered apart.old place || is_in whole place) || is_in span place)) }
+    ensures within { IfOk result (λ after. (len : ℕ) → AreWithin apart.old len → whole.to ≤ len
+        → span.to ≤ len → AreWithin apart.new len × (after.to ≤ len)) }
 {
     if touches(whole, span) {
         return Ok(hull(whole, span));
     }
-    if apart.push(span).is_err() {
-        return Err(NoMemory);
-    }
+    apart.append(span)?;
     Ok(whole)
 }
 
 /// The spans and one more, with those that touch it in one.
 pub(crate) fn merged(alloc: Global, spans: &[Span], more: Span) -> Result<List<Span>, NoMemory>
-    ensures covers { IfOk result (λ merged. (place : ℕ) → is_covered merged place ≡ (is_covered spans.now place || is_in more place)) }
-    ensures within { IfOk result (λ merged. (len : ℕ) → AreWithin spans.now len → more.to ≤ len → AreWithin merged len) }
+    ensures covers { IfOk result (λ merged. (place : ℕ)
+        → is_covered merged place ≡ (is_covered spans.now place || is_in more place)) }
+    ensures within { IfOk result (λ merged. (len : ℕ) → AreWithin spans.now len → more.to ≤ len
+        → AreWithin merged len) }
 {
     let mut apart = List::new(alloc);
     let mut whole = more;
     for span in spans {
         match absorbed(&mut apart, whole, *span) {
             Ok(after) => whole = after,
-            Err(NoMemory) => return Err(NoMemory),
+            Err(error) => return Err(error),
         }
     }
-    match apart.push(whole) {
+    match apart.append(whole) {
         Ok(()) => Ok(apart),
-        Err(_span) => Err(NoMemory),
+        Err(error) => Err(error),
     }
 }

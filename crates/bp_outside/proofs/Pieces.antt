@@ -18,13 +18,6 @@ pub Appended-more : (a b c : Option (List ℕ)) (i n : ℕ) (piece : List ℕ) �
 Appended-more a b c i n piece first then =
     rw take-add (Appended-then a b c (take i piece) (take n (drop i piece)) first then)
 
--- one piece is given, and then another
-pub Taken-then : (a b c : Option (List ℕ)) (xs ys : List ℕ) →
-    Taken a xs b → Taken b ys c → Taken a (xs ++ ys) c
-Taken-then a b None xs ys first then = first ∙ ap (option_map (λ rest. xs ++ rest)) then
-Taken-then a b (Some rest) xs ys first then =
-    first ∙ (ap (option_map (λ rest. xs ++ rest)) then ∙ ap (λ v. Some v) (sym (append_assoc xs ys rest)))
-
 -- what was left is what stands in front of the buffer, and then the rest
 pub given_parts : (bytes front back : List ℕ) (given n : ℕ) →
     length front ≡ n → front ≡ take n (drop given bytes) →

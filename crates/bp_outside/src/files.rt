@@ -41,8 +41,5 @@ pub(crate) fn note(alloc: Global, names: &mut List<Bytes>, name: &str) -> Result
     ensures err { OnErr result (names.new ≡ names.old) }
 {
     let name = Bytes::of(Vec::from_slice(alloc, name.as_bytes())?);
-    if names.push(name).is_err() {
-        return Err(NoMemory);
-    }
-    Ok(())
+    names.append(name)
 }

@@ -65,9 +65,9 @@ fn read_file<R: Read>(file: &mut R, limit: u64, out: &mut Bytes) -> Result<(), F
         if n == 0 {
             return Ok(());
         }
-        if out.extend(&piece[..n]).is_err() {
+        if let Err(error) = out.extend(&piece[..n]) {
             out.truncate(0);
-            return Err(FetchFault::NoMemory);
+            return Err(error.into());
         }
     }
     Err(FetchFault::TooLong)

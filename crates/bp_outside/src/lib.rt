@@ -30,6 +30,3 @@ pub use shelf::{FetchFault, Shelf};
 pub use sink::{Sink, write_all};
 pub use source::Source;
 pub use steady::{DropSink, SteadyShelf, SteadySource};
-
-#[cfg(test)]
-mod tests;

@@ -64,7 +64,8 @@ impl Shelf for MemoryShelf {
             → Contains self.old.failing self.old.calls ⊎ IsNone (held self.old.files name.now) }
         ensures ok_only { OnOk result ((Contains self.old.failing self.old.calls → ⊥)
             × (held self.old.files name.now ≡ Some out.new) × (length out.new ≤ limit)) }
-        ensures too_long_only { IsErrOf result FetchFault.TooLong → (Contains self.old.failing self.old.calls → ⊥)
+        ensures too_long_only { IsErrOf result FetchFault.TooLong
+            → (Contains self.old.failing self.old.calls → ⊥)
             × IsTooLong (Some (held self.old.files)) name.now limit out.new }
 
         ensures one_more { IsErrOf result FetchFault.TooLong → length out.new ≡ limit + 1 }
@@ -74,10 +75,13 @@ impl Shelf for MemoryShelf {
         ensures files { self.new.files ≡ self.old.files }
         ensures failing { self.new.failing ≡ self.old.failing }
         ensures calls { self.new.calls ≡ counted self.old.calls }
-        ensures noted { IsErrOf result FetchFault.Failed → self.new.failed ≡ self.old.failed ++ name.now ∷ [] }
+        ensures noted { IsErrOf result FetchFault.Failed
+            → self.new.failed ≡ self.old.failed ++ name.now ∷ [] }
         ensures quiet { OnOk result (self.new.failed ≡ self.old.failed) }
-        ensures quiet_too_long { IsErrOf result FetchFault.TooLong → self.new.failed ≡ self.old.failed }
-        ensures quiet_no_memory { IsErrOf result FetchFault.NoMemory → self.new.failed ≡ self.old.failed }
+        ensures quiet_too_long { IsErrOf result FetchFault.TooLong
+            → self.new.failed ≡ self.old.failed }
+        ensures quiet_no_memory { IsErrOf result FetchFault.NoMemory
+            → self.new.failed ≡ self.old.failed }
     {
         out.truncate(0);
         if !self.calls.begin() {

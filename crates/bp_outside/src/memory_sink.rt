@@ -75,7 +75,8 @@ impl Sink for MemorySink {
 
     fn write(&mut self, piece: &[u8]) -> Result<usize, Failed>
         ensures fails { IsErr result
-            ↔ (Contains self.old.failing self.old.calls ⊎ ((self.old.room ≡ 0) × (0 < length piece.now))) }
+            ↔ (Contains self.old.failing self.old.calls
+            ⊎ ((self.old.room ≡ 0) × (0 < length piece.now))) }
         ensures takes { IfOk result (λ n. n ≡ min (length piece.now) self.old.room) }
         ensures after { IfOk result (λ n. self.new ≡ record self.old {
           written = self.old.written ++ take n piece.now;
@@ -91,7 +92,8 @@ impl Sink for MemorySink {
         ensures never_falls { self.old.faults ≤ self.new.faults }
         ensures takes_on { (n : ℕ) → NoneFails self.old.failing self.old.calls × (n ≤ self.old.room)
             → length piece.now ≤ n
-            → IsOkAnd result (λ k. NoneFails self.new.failing self.new.calls × (n - k ≤ self.new.room)) }
+            → IsOkAnd result (λ k. NoneFails self.new.failing self.new.calls
+            × (n - k ≤ self.new.room)) }
     {
         let is_full = self.room == 0 && !piece.is_empty();
         if self.calls.begin() || is_full {

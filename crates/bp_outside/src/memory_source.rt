@@ -64,7 +64,8 @@ impl Source for MemorySource {
 
     fn read(&mut self, buf: &mut [u8]) -> Result<usize, Failed>
         ensures fails { IsErr result ↔ Contains self.old.failing self.old.calls }
-        ensures gives { IfOk result (λ n. n ≡ min self.old.most (min (length buf.old) (length self.old.left))) }
+        ensures gives { IfOk result
+            (λ n. n ≡ min self.old.most (min (length buf.old) (length self.old.left))) }
         ensures moved { IfOk result (λ n. self.old.left ≡ take n buf.new ++ self.new.left) }
         ensures rest { IfOk result (λ n. self.new ≡ record self.old {
           left = drop n self.old.left;

@@ -57,15 +57,20 @@ pub trait Shelf {
 
         ensures fits { OnOk result (length out.new ≤ limit) }
         ensures whole { OnOk result (IsWholeFile (files self.old) name.now out.new) }
-        ensures too_long { IsErrOf result FetchFault.TooLong → IsTooLong (files self.old) name.now limit out.new }
+        ensures too_long { IsErrOf result FetchFault.TooLong
+            → IsTooLong (files self.old) name.now limit out.new }
         ensures one_more { IsErrOf result FetchFault.TooLong → length out.new ≡ limit + 1 }
         ensures empty_failed { IsErrOf result FetchFault.Failed → out.new ≡ [] }
         ensures empty_no_memory { IsErrOf result FetchFault.NoMemory → out.new ≡ [] }
 
         ensures unchanged { files self.new ≡ files self.old }
-        ensures noted { IsErrOf result FetchFault.Failed → failed self.new ≡ failed self.old ++ name.now ∷ [] }
+        ensures noted { IsErrOf result FetchFault.Failed
+            → failed self.new ≡ failed self.old ++ name.now ∷ [] }
         ensures quiet { OnOk result (failed self.new ≡ failed self.old) }
-        ensures quiet_too_long { IsErrOf result FetchFault.TooLong → failed self.new ≡ failed self.old }
-        ensures quiet_no_memory { IsErrOf result FetchFault.NoMemory → failed self.new ≡ failed self.old }
-        ensures fetches_on { steady self.old → (IsErrOf result FetchFault.Failed → ⊥) × steady self.new };
+        ensures quiet_too_long { IsErrOf result FetchFault.TooLong
+            → failed self.new ≡ failed self.old }
+        ensures quiet_no_memory { IsErrOf result FetchFault.NoMemory
+            → failed self.new ≡ failed self.old }
+        ensures fetches_on { steady self.old
+            → (IsErrOf result FetchFault.Failed → ⊥) × steady self.new };
 }

@@ -20,7 +20,8 @@ pub trait Sink {
     fn write(&mut self, piece: &[u8]) -> Result<usize, Failed>
         ensures within { IfOk result (λ n. n ≤ length piece.now) }
         ensures some { IfOk result (λ n. 0 < length piece.now → 0 < n) }
-        ensures moved { IfOk result (λ n. Appended (written self.old) (take n piece.now) (written self.new)) }
+        ensures moved { IfOk result
+            (λ n. Appended (written self.old) (take n piece.now) (written self.new)) }
         ensures stays { OnErr result (written self.new ≡ written self.old) }
 
         ensures quiet { OnOk result (faults self.new ≡ faults self.old) }

@@ -21,7 +21,8 @@ pub trait Source {
     fn read(&mut self, buf: &mut [u8]) -> Result<usize, Failed>
         ensures within { IfOk result (λ n. n ≤ length buf.old) }
         ensures moved { IfOk result (λ n. Taken (left self.old) (take n buf.new) (left self.new)) }
-        ensures ended { IfOk result (λ n. n ≡ 0 → 0 < length buf.old → IfSome (left self.old) (λ bytes. bytes ≡ [])) }
+        ensures ended { IfOk result
+            (λ n. n ≡ 0 → 0 < length buf.old → IfSome (left self.old) (λ bytes. bytes ≡ [])) }
         ensures stays { OnErr result (left self.new ≡ left self.old) }
 
         ensures quiet { OnOk result (faults self.new ≡ faults self.old) }

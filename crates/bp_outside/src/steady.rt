@@ -55,9 +55,11 @@ impl Source for SteadySource {
     ghost steady = { λ _. Unit {0} };
 
     fn read(&mut self, buf: &mut [u8]) -> Result<usize, Failed>
-        ensures gives { IsOkAnd result (λ n. n ≡ min self.old.most (min (length buf.old) (length self.old.left))) }
+        ensures gives { IsOkAnd result
+            (λ n. n ≡ min self.old.most (min (length buf.old) (length self.old.left))) }
         ensures moved { IsOkAnd result (λ n. self.old.left ≡ take n buf.new ++ self.new.left) }
-        ensures rest { IsOkAnd result (λ n. self.new ≡ record self.old { left = drop n self.old.left }) }
+        ensures rest { IsOkAnd result
+            (λ n. self.new ≡ record self.old { left = drop n self.old.left }) }
         ensures ended { IsOkAnd result (λ n. n ≡ 0 → 0 < length buf.old → self.old.left ≡ []) }
     {
         let n = give(self.bytes.as_slice(), self.given, self.most, buf);
@@ -101,7 +103,8 @@ impl Shelf for SteadyShelf {
     fn fetch(&mut self, name: &str, limit: u64, out: &mut Bytes) -> Result<(), FetchFault>
         requires { limit < 2 ^ 64 - 1 }
         ensures never_failed { IsErrOf result FetchFault.Failed → ⊥ }
-        ensures ok_only { OnOk result ((held_or_empty self.old name.now ≡ Some out.new) × (length out.new ≤ limit)) }
+        ensures ok_only { OnOk result ((held_or_empty self.old name.now ≡ Some out.new)
+            × (length out.new ≤ limit)) }
         ensures too_long_only { IsErrOf result FetchFault.TooLong
             → IsTooLong (Some (held_or_empty self.old)) name.now limit out.new }
         ensures one_more { IsErrOf result FetchFault.TooLong → length out.new ≡ limit + 1 }

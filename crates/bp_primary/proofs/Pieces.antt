@@ -23,11 +23,6 @@ pub length-spelling : (primary : Primary) → length (spelling primary) ≡ leng
 unfolding spelling array_with
 length-spelling primary = let item = same_item primary.crc (array_with primary (zeros primary.crc)) in simp length-append (omega (arith, item))
 
--- the spelling of a block with this kind of check
-pub spelling-at : (primary : Primary) (kind : CheckKind) → primary.crc ≡ kind → spelling primary ≡ array_with primary (check_bytes kind (array_with primary (zeros primary.crc)))
-unfolding spelling
-spelling-at primary kind is = ap (λ (k : CheckKind). array_with primary (check_bytes k (array_with primary (zeros primary.crc)))) is
-
 few_fragment_items : (fragment : Option Piece) → fragment_count fragment ≤ 2
 few_fragment_items options.None = omega arith
 few_fragment_items (options.Some piece) = omega arith

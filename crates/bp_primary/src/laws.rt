@@ -7,7 +7,8 @@ ghost use Rattle.bp_primary.specs.declared.primary.Primary.{Primary};
 
 /// A spelling determines its block, and no spelling is a proper prefix of another.
 pub fn primary_blocks_have_one_spelling()
-    ensures { (a b : Primary) (x y : List ℕ) → IsPrimary a → IsPrimary b → spelling a ++ x ≡ spelling b ++ y → (a ≡ b) × (x ≡ y) }
+    ensures { (a b : Primary) (x y : List ℕ) → IsPrimary a → IsPrimary b
+        → spelling a ++ x ≡ spelling b ++ y → (a ≡ b) × (x ≡ y) }
 {
     cbor_profile::laws::heads_have_one_spelling();
     bp_eid::laws::ids_have_one_spelling();

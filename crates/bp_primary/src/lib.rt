@@ -7,6 +7,3 @@ mod parts;
 mod primary;
 
 pub use primary::{Piece, Primary};
-
-#[cfg(test)]
-mod tests;

@@ -48,7 +48,8 @@ impl Primary {
 
     /// Whether the three ids are the same.
     fn has_nodes_of(&self, other: &Primary) -> bool
-        ensures { IsTrue result ↔ ((self.now.destination ≡ other.now.destination) × (self.now.source ≡ other.now.source)
+        ensures { IsTrue result
+            ↔ ((self.now.destination ≡ other.now.destination) × (self.now.source ≡ other.now.source)
             × (self.now.report_to ≡ other.now.report_to)) }
     {
         self.destination.is(&other.destination)
@@ -58,7 +59,8 @@ impl Primary {
 
     /// Whether the times are the same.
     fn has_times_of(&self, other: &Primary) -> bool
-        ensures { IsTrue result ↔ ((self.now.created ≡ other.now.created) × (self.now.sequence ≡ other.now.sequence)
+        ensures { IsTrue result
+            ↔ ((self.now.created ≡ other.now.created) × (self.now.sequence ≡ other.now.sequence)
             × (self.now.lifetime ≡ other.now.lifetime)) }
     {
         self.created == other.created
@@ -68,7 +70,8 @@ impl Primary {
 
     /// Whether the flags, the kind of check and the place of a fragment are the same.
     fn has_front_of(&self, other: &Primary) -> bool
-        ensures { IsTrue result ↔ ((self.now.flags ≡ other.now.flags) × (self.now.crc ≡ other.now.crc)
+        ensures { IsTrue result
+            ↔ ((self.now.flags ≡ other.now.flags) × (self.now.crc ≡ other.now.crc)
             × (self.now.fragment ≡ other.now.fragment)) }
     {
         self.flags == other.flags && self.crc == other.crc && self.fragment == other.fragment
@@ -128,7 +131,8 @@ impl Primary {
 
     /// The check over the array whose check bytes are zero.
     fn check(&self) -> CheckBytes
-        ensures { length (spelling self.now) < 2 ^ 64 → bytes_of result ≡ check_bytes self.now.crc (array_with self.now (zeros self.now.crc)) }
+        ensures { length (spelling self.now) < 2 ^ 64 → bytes_of result
+            ≡ check_bytes self.now.crc (array_with self.now (zeros self.now.crc)) }
     {
         what_is_fixed_names_the_kind();
         let mut checking = Checking::new(self.crc);

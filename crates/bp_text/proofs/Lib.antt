@@ -1,5 +1,8 @@
-pub mod IdTexts
+-- ---- trees and lists
 pub mod Trees
 pub mod Lists
-pub mod Entered
-pub mod Named
+-- ---- endpoint ids in texts
+pub mod IdTexts
+-- ---- entries and their names
+pub mod EntriesInTurn
+pub mod EntryNames

@@ -37,7 +37,7 @@ fn note_name(alloc: Global, tree: &Value, names: &mut Names) -> Result<bool, Tex
     match word_field(tree, "name") {
         Some(name) => match names.note(alloc, name) {
             Ok(fresh) => Ok(fresh),
-            Err(_) => Err(TextError::NoMemory),
+            Err(error) => Err(error.into()),
         },
         None => Ok(true),
     }
@@ -87,9 +87,9 @@ pub fn read_entries<E: Entry>(
     let mut index = first;
     for value in values {
         match read_entry(alloc, version, value, index, names) {
-            Ok(entry) => match entries.push(entry) {
+            Ok(entry) => match entries.append(entry) {
                 Ok(()) => index += 1,
-                Err(_) => return Err(TextError::NoMemory),
+                Err(error) => return Err(error.into()),
             },
             Err(e) => return Err(e),
         }

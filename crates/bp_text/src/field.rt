@@ -73,7 +73,7 @@ pub fn eid_field(alloc: Global, tree: &Value, key: &str) -> Result<Eid, FieldFau
     match Eid::parse_text(alloc, text) {
         Ok(Some(eid)) => Ok(eid),
         Ok(None) => Err(FieldFault::UnknownWord),
-        Err(_) => Err(FieldFault::NoMemory),
+        Err(error) => Err(error.into()),
     }
 }
 
@@ -87,7 +87,8 @@ pub fn hex_field(
     least: u64,
     most: u64,
 ) -> Result<Bytes, FieldFault>
-    ensures { Gives IsFieldFault (λ bytes. bytes) result (hex_at least most key.now (view tree.now)) }
+    ensures { Gives IsFieldFault (λ bytes. bytes) result
+        (hex_at least most key.now (view tree.now)) }
 {
     let Some(text) = word_field(tree, key) else {
         return Err(FieldFault::WrongShape);

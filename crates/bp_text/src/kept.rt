@@ -37,7 +37,7 @@ impl Field for Bytes {
         };
         match Vec::from_slice(alloc, text.as_bytes()) {
             Ok(content) => Ok(Bytes::of(content)),
-            Err(_) => Err(FieldFault::NoMemory),
+            Err(error) => Err(NoMemory::from(error).into()),
         }
     }
 }
@@ -65,7 +65,8 @@ impl Field for u64 {
 
 /// Appends the value, if it is a whole number.
 fn push_whole(numbers: &mut Vec<u64>, value: &Value) -> Result<(), NoMemory>
-    ensures { OnOk result (numbers.new.items ≡ numbers.old.items ++ option_to_list (whole (view value.now))) }
+    ensures { OnOk result (numbers.new.items
+        ≡ numbers.old.items ++ option_to_list (whole (view value.now))) }
 {
     if let Some(number) = value.as_u64() {
         numbers.push(number)?;
@@ -94,7 +95,7 @@ impl Field for List<u64> {
         };
         match wholes(alloc, values) {
             Ok(numbers) => Ok(List::of(numbers)),
-            Err(_) => Err(FieldFault::NoMemory),
+            Err(error) => Err(error.into()),
         }
     }
 }
@@ -102,7 +103,8 @@ impl Field for List<u64> {
 /// Reads the value at a key, if the tree has the key.
 #[tactic(auto, unfolding(crate::specs::Field::optional))]
 pub fn optional<T: Field>(alloc: Global, tree: &Value, key: &str) -> Result<Option<T>, FieldFault>
-    ensures { Gives IsFieldFault (λ field. field) result (optional T.reads key.now (view tree.now)) }
+    ensures { Gives IsFieldFault (λ field. field) result
+        (optional T.reads key.now (view tree.now)) }
 {
     if tree.get(key).is_none() {
         return Ok(None);

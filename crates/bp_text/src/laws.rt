@@ -16,7 +16,8 @@ use crate::entries::Entry;
 /// The text of an id is read as that id, and what is read as an id is the text of it.
 pub fn ids_are_read_as_written()
     ensures again { (eid : Eid) → Fits eid → id_of_text (text_form eid) ≡ Some eid }
-    ensures means { (text : List ℕ) (eid : Eid) → id_of_text text ≡ Some eid → Fits eid × (text ≡ text_form eid) }
+    ensures means { (text : List ℕ) (eid : Eid) → id_of_text text ≡ Some eid
+        → Fits eid × (text ≡ text_form eid) }
 {}
 
 /// Where all entries are read there are as many values as entries, no name stands twice among them, and none stood

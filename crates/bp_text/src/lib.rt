@@ -22,6 +22,3 @@ pub use names::Names;
 pub use shape::{Kind, has, has_only, is_name, may_have};
 pub use top::{is_short, version_field};
 pub use tree::{TEXT_LIMIT, read_tree, refused};
-
-#[cfg(test)]
-mod tests;

@@ -29,7 +29,8 @@ impl Names {
         ensures is_new { IfOk result (λ fresh. fresh ≡ not (knows self.old name.now)) }
         ensures known { OnOk result ((other : List ℕ)
             → knows self.new other ≡ (bytes_eq name.now other || knows self.old other)) }
-        ensures err { OnErr result ((other : List ℕ) → knows self.new other ≡ knows self.old other) }
+        ensures err { OnErr result ((other : List ℕ)
+            → knows self.new other ≡ knows self.old other) }
     {
         let name = String::from_str(alloc, name)?;
         Ok(self.seen.insert(name)?)

@@ -149,7 +149,8 @@ fn is_listed(keys: &[&str], key: &str) -> bool
 /// Whether all keys of the object are among these.
 fn all_listed(keys: &[&str], members: &Map<String, Value>) -> bool
     ensures { result
-        ≡ list_all (λ key. list_any (λ k. bytes_eq k.now (string_bytes key)) keys.now) (keys_of members.now) }
+        ≡ list_all (λ key. list_any
+        (λ k. bytes_eq k.now (string_bytes key)) keys.now) (keys_of members.now) }
 {
     members.keys().all(|key| is_listed(keys, key.as_str()))
 }

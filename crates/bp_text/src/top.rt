@@ -16,7 +16,8 @@ use serde_json::Value;
 /// none of these. Takes no memory.
 #[tactic(auto, unfolding(crate::specs::Top::version_at))]
 pub fn version_field(tree: &Value, versions: &[u64]) -> Result<u64, TextError>
-    ensures exact { Gives IsTextError (λ version. version) result (top (version_at versions.now (view tree.now))) }
+    ensures exact { Gives IsTextError (λ version. version) result
+        (top (version_at versions.now (view tree.now))) }
     ensures quiet { IfErr result (λ e. e ≢ errors.NoMemory) }
 {
     match number_field(tree, "version") {

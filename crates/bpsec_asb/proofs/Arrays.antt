@@ -6,16 +6,16 @@ use Rattle.std.proofs.lemmas.List.{append-nil}
 use Rattle.cbor_profile.specs.declared.fault.Reason.TheVariants as reasons
 use Rattle.cbor_profile.specs.Head.{spelling}
 use Rattle.cbor_profile.specs.Put.{array_head}
-use Rattle.cbor_profile.proofs.Heads.{read-spelling, read-means}
+use Rattle.cbor_profile.proofs.Tokens.{token_again, token_means}
 use Rattle.bp_eid.specs.declared.stop.Stop.{Stop}
 use Rattle.bp_eid.specs.Reading.{stops, head_at}
 use Rattle.bp_eid.proofs.Steps.{IsBytes, bind_ok, let_through, ok_is, Takes, Takes-then}
-use Rattle.bp_eid.proofs.Tokens.{HeadLaws, head_again, head_means, spelled, one_kind, took}
+use Rattle.bp_eid.proofs.Tokens.{TokenLaws, head_again, head_means, spelled, one_kind, took}
 use Rattle.bpsec_asb.specs.SecurityBlock.{array}
 use Rattle.bpsec_asb.specs.Reading.{count_at, each_at, array_at}
 
-pub laws : HeadLaws
-laws = record { again = read-spelling; means = read-means }
+pub laws : TokenLaws
+laws = record { again = token_again; means = token_means }
 
 -- ---- counts
 

@@ -15,8 +15,3 @@ pub mod KnownList
 pub mod CoveredTest
 pub mod Growing
 pub mod Stays
-pub mod Fresh
-pub mod Here
-pub mod ArraysReached
-pub mod FieldsReached
-pub mod BlocksReached

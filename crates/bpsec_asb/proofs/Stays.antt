@@ -12,9 +12,7 @@ use Rattle.bp_eid.proofs.Answered.{place_stays}
 use Rattle.bpsec_asb.specs.declared.asb.Asb.{Asb}
 use Rattle.bpsec_asb.specs.SecurityBlock.{spelling, IsSecurityBlock}
 use Rattle.bpsec_asb.specs.Reading.{asb_at, ends, body_at, answer, read_body}
-use Rattle.bp_eid.specs.Prefix.{Begins}
-use Rattle.bpsec_asb.specs.Prefix.{IsSpelling}
-use Rattle.bpsec_asb.proofs.Blocks.{asb_again, body_again, ok_of_asb}
+use Rattle.bpsec_asb.proofs.Blocks.{asb_again, ok_of_asb}
 use Rattle.bpsec_asb.proofs.Growing.{asb_grows}
 
 -- one spelling, and none is a proper prefix of another
@@ -22,11 +20,6 @@ pub one_spelling : (a b : Asb) (x y : List ℕ) → IsSecurityBlock a → IsSecu
 one_spelling a b x y ha hb e =
     let same : (a, x) ≡ (b, y) = ok_of_asb (a, x) (b, y) (sym (asb_again a x ha) ∙ (ap asb_at e ∙ asb_again b y hb)) in
     (ap (λ (p : Asb × List ℕ). p.0) same, ap (λ (p : Asb × List ℕ). p.1) same)
-
--- where more follows it, a body that was read ends too early
-more_follows : (given : ℕ) (x : Asb × List ℕ) (byte : ℕ) (more : List ℕ) → ends (x.0, x.1 ++ byte ∷ more) ≡ stops (x.1 ++ byte ∷ more) reasons.Trailing
-more_follows given (asb, []) byte more = refl
-more_follows given (asb, b ∷ bs) byte more = refl
 
 -- the stop at which reading ends, with more behind it
 ends_grow : (bytes more : List ℕ) (x : Asb × List ℕ) (stop : Stop) → ends x ≡ Err stop → ends (x.0, x.1 ++ more) ≡ Err (record { reason = stop.reason; left = stop.left + length more })
@@ -69,15 +62,3 @@ unfolding read_body body_at
 trailing asb byte more fits =
     let place : length (spelling asb ++ byte ∷ more) - length (byte ∷ more) ≡ length (spelling asb) = omega (arith, length-append (spelling asb) (byte ∷ more)) in
     rw (asb_again asb (byte ∷ more) fits, place) refl
-
--- with a faulty token no spelling begins
-pub begins_none : (body : List ℕ) (stop : Stop) → body_at body ≡ Err stop → stop.reason ≢ reasons.Truncated → Begins IsSpelling body → ⊥
-begins_none body stop e other (whole, (asb, fits, spelled), more, is) =
-    let read : body_at whole ≡ Ok asb = body_again whole asb (fits, spelled) in
-    let stays = body_stays body more stop e other in
-    let clash : body_at whole ≡ Err (record { reason = stop.reason; left = stop.left + length more }) = ap body_at is ∙ stays in
-    not_both (body_at whole) asb _ read clash
-  where
-    not_both : (r : Result Asb Stop) (asb : Asb) (s : Stop) → r ≡ Ok asb → r ≡ Err s → ⊥
-    not_both (Ok x) asb s a b = cc
-    not_both (Err x) asb s a b = cc

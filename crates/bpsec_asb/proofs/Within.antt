@@ -95,17 +95,3 @@ asb_rest_within bytes x e = subst (IsWithin rest_of (length bytes)) e (asb_withi
 pub asb_stop_within : (bytes : List ℕ) (stop : Stop) → asb_at bytes ≡ Err stop → stop.left ≤ length bytes
 unfolding IsWithin
 asb_stop_within bytes stop e = subst (IsWithin rest_of (length bytes)) e (asb_within (length bytes) bytes (omega arith))
-
-none_left : Asb → ℕ
-none_left asb = 0
-
-ends_within : (given : ℕ) (x : Asb × List ℕ) → length x.1 ≤ given → IsWithin none_left given (ends x)
-unfolding none_left
-ends_within given (asb, []) le = ok_within none_left given asb (omega arith)
-ends_within given (asb, byte ∷ bytes) le = stops_within none_left given (byte ∷ bytes) reasons.Trailing le
-
-pub body_stop_within : (body : List ℕ) (stop : Stop) → body_at body ≡ Err stop → stop.left ≤ length body
-unfolding body_at IsWithin
-body_stop_within body stop e =
-    let given = length body in
-    subst (IsWithin none_left given) e (then_within rest_of none_left given (asb_at body) ends (asb_within given body (omega arith)) (λ x h. ends_within given x h))

@@ -4,4 +4,3 @@ pub mod Step
 pub mod Operations
 pub mod Order
 pub mod Known
-pub mod Prefix

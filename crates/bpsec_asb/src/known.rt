@@ -27,7 +27,7 @@ fn targets(alloc: Global, body: &[u8]) -> Result<List<u64>, NoMemory>
     match Asb::read(alloc, body) {
         Ok(asb) => Ok(asb.targets),
         Err(SpellError::Fault(_)) => Ok(List::new(alloc)),
-        Err(SpellError::NoMemory) => Err(NoMemory),
+        Err(SpellError::NoMemory) => Err(NoMemory::again()),
     }
 }
 

@@ -9,8 +9,6 @@ ghost use Rattle.bp_eid.specs.declared.stop.Stop.{Stop};
 ghost use Rattle.bp_blocks.specs.declared.block.Block.{Block};
 ghost use Rattle.bpsec_asb.specs.SecurityBlock.{IsSecurityBlock, Reads, spelling};
 ghost use Rattle.bpsec_asb.specs.Reading.{asb_at, body_at, read_body};
-ghost use Rattle.bp_eid.specs.Prefix.{Begins, EndsInShortText, before_stop};
-ghost use Rattle.bpsec_asb.specs.Prefix.{IsSpelling};
 ghost use Rattle.bpsec_asb.specs.Operations.{NumbersAreDistinct, BodiesAreBytes, IsOperationOf, IsCovered};
 ghost use Rattle.bpsec_asb.specs.Operations.{IsVisible, IsHidden, IsKnown};
 ghost use Rattle.bpsec_asb.specs.Order.{op_cmp};
@@ -71,14 +69,4 @@ pub fn known_operations_are_listed_once_in_order()
     ensures ordered { (blocks : List Block) → IsStrictlySortedBy op_cmp (known blocks) }
     ensures only { (xs ys : List OpId) → IsStrictlySortedBy op_cmp xs → IsStrictlySortedBy op_cmp ys
         → ((op : OpId) → Contains xs op ↔ Contains ys op) → xs ≡ ys }
-{}
-
-/// What stands before the token at which reading stops begins the spelling of some security block, but where it ends in the
-/// head of a text of fewer than three bytes: such an id is refused only at the content of its text. With the faulty token,
-/// unless the bytes end too early, no spelling begins so.
-pub fn faulty_tokens_stand_behind_a_correct_prefix()
-    ensures before { (body : List ℕ) (stop : Stop) → ((i : ℕ) → slice_index body i < 256) → body_at body ≡ Err stop
-        → Begins IsSpelling (before_stop body stop) ⊎ EndsInShortText (before_stop body stop) }
-    ensures with_it { (body : List ℕ) (stop : Stop) → body_at body ≡ Err stop → stop.reason ≢ Truncated
-        → Begins IsSpelling body → ⊥ }
 {}

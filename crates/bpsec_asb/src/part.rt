@@ -59,9 +59,7 @@ pub(crate) fn copy_all<T: Part>(alloc: Global, items: &[T]) -> Result<List<T>, N
     let mut copies = List::new(alloc);
     for item in items {
         let copy = item.copy(alloc)?;
-        if copies.push(copy).is_err() {
-            return Err(NoMemory);
-        }
+        copies.append(copy)?;
     }
     Ok(copies)
 }
@@ -87,9 +85,7 @@ fn each<T: Part>(alloc: Global, count: u64, bytes: &[u8]) -> Result<(List<T>, &[
     let mut rest = bytes;
     for _ in 0..count {
         let (item, after) = T::read(alloc, items.items(), rest)?;
-        if items.push(item).is_err() {
-            return Err(ReadError::NoMemory);
-        }
+        items.append(item)?;
         rest = after;
     }
     Ok((items, rest))

@@ -10,7 +10,8 @@ use Rattle.bpsec_command.specs.declared.status.Status.TheVariants.{Usage, Bundle
 use Rattle.bpsec_command.specs.declared.status.Refused.TheVariants as refused
 use Rattle.bpsec_command.specs.declared.status.Reading.TheVariants.{Input, Shelf}
 use Rattle.bpsec_command.specs.declared.status.PiecesReason.{PiecesReason}
-use Rattle.bpsec_command.specs.Reasons.{reason_name, text_reason_name, plan_reason_name, pieces_reason_name}
+use Rattle.cbor_profile.specs.Reasons.{reason_name}
+use Rattle.bpsec_command.specs.Reasons.{text_reason_name, plan_reason_name, pieces_reason_name}
 
 -- ---- lines
 

@@ -39,7 +39,7 @@ fn add_refused(alloc: Global, fault: AddFault) -> Result<Answer, NoMemory>
             pieces_refused(alloc, PiecesReason::Disagree, Some(place))
         }
         AddFault::TooMany => pieces_refused(alloc, PiecesReason::TooMany, None),
-        AddFault::NoMemory => Err(NoMemory),
+        AddFault::NoMemory => Err(NoMemory::again()),
     }
 }
 
@@ -64,7 +64,7 @@ fn join(alloc: Global, pieces: Assembly) -> Result<Answer, NoMemory>
             pieces_refused(alloc, PiecesReason::Gap, Some(place))
         }
         Err((_, FinishFault::TooLong)) => pieces_refused(alloc, PiecesReason::TooLong, None),
-        Err((_, FinishFault::NoMemory)) => Err(NoMemory),
+        Err((_, FinishFault::NoMemory)) => Err(NoMemory::again()),
     }
 }
 

@@ -11,7 +11,7 @@ use crate::status::{PiecesReason, Refused, Status};
 use crate::texts::NamedText;
 use bp_text::{TextFault, TextReason};
 use bpsec_secure::PlanReason;
-use cbor_profile::{Fault, NoMemory, Reason};
+use cbor_profile::{Fault, NoMemory};
 use std::alloc::Global;
 
 /// The answer to words that are no line of the grammar.
@@ -22,31 +22,12 @@ pub fn usage(alloc: Global, word: u64) -> Result<Answer, NoMemory>
     Ok(refusal(alloc, Status::Usage { word }, line))
 }
 
-/// The name of a reason.
-fn reason_name(reason: Reason) -> &'static str
-    ensures { result.now ≡ names.reason_name reason }
-{
-    match reason {
-        Reason::NotBundle => "NotBundle",
-        Reason::Truncated => "Truncated",
-        Reason::NotShortest => "NotShortest",
-        Reason::WrongKind => "WrongKind",
-        Reason::WrongCount => "WrongCount",
-        Reason::WrongValue => "WrongValue",
-        Reason::WrongText => "WrongText",
-        Reason::WrongCheck => "WrongCheck",
-        Reason::TooLong => "TooLong",
-        Reason::Trailing => "Trailing",
-        Reason::Repeated => "Repeated",
-    }
-}
-
 /// The answer to an input that is no bundle.
 pub fn bundle_refused(alloc: Global, fault: Fault) -> Result<Answer, NoMemory>
     ensures { IfOk result (λ answer. answer ≡ bundle_refused fault) }
 {
     let place = fault.place;
-    let reason = reason_name(fault.reason);
+    let reason = fault.reason.name();
     let line = format!(in alloc; "refused bundle place={place} reason={reason}\n")?;
     Ok(refusal(alloc, Status::BundleRefused(Refused::Fault(fault)), line))
 }
@@ -64,7 +45,7 @@ fn broken_line(alloc: Global, block: u64, fault: Fault) -> Result<String, NoMemo
     ensures { IfOk result (λ line. string_bytes line ≡ broken_line block fault) }
 {
     let place = fault.place;
-    let reason = reason_name(fault.reason);
+    let reason = fault.reason.name();
     Ok(format!(in alloc; "refused bundle bcb={block} place={place} reason={reason}\n")?)
 }
 

@@ -1,8 +1,7 @@
 //! The first step: the words after the program's name, read as a line of the grammar.
 
-ghost use Rattle.std.specs.Prelude.{◌≡◌, ◌≤◌, ◌↔◌, IsTrue, length, map, string_bytes};
+ghost use Rattle.std.specs.Prelude.{◌≡◌, ◌≤◌, length, map, string_bytes};
 ghost use Rattle.bpsec_command.specs.Words.{word_at, number_at, number_of, command_of};
-ghost use Rattle.bp_eid.specs.TextAnswer.{IsPadded, IsNumberOf};
 ghost use Rattle.bpsec_command.specs.Words as grammar;
 ghost use Rattle.bpsec_command.specs.Slots.{slot_of, told_by, read_as, or_line};
 
@@ -51,31 +50,11 @@ pub(crate) enum Slot {
     Number,
 }
 
-/// Whether a sign stands at the front, or a zero before more.
-fn is_padded(digits: &[u8]) -> bool
-    ensures { IsTrue result ↔ IsPadded digits.now }
-{
-    let [first, rest @ ..] = digits else {
-        return false;
-    };
-    *first == b'+' || (*first == b'0' && !rest.is_empty())
-}
-
 /// The number whose decimal digits these are, without leading zeros.
-fn parsed(digits: &str) -> Option<u64>
-    ensures { IsNumberOf digits.now result }
-{
-    if is_padded(digits.as_bytes()) {
-        return None;
-    }
-    digits.parse().ok()
-}
-
-/// The same as a value.
 fn number_of(digits: &str) -> Option<u64>
     ensures { result ≡ number_of digits.now }
 {
-    parsed(digits)
+    bp_eid::number_of(digits)
 }
 
 /// Whether a word may stand there.

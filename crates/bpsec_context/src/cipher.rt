@@ -58,7 +58,8 @@ pub trait CipherContext {
         requires sealed { IsTrue (is_sealed (target_of covered.now.target)) }
         requires key { IsShort (option_copied key) }
         requires body { length body.now ≤ 2 ^ 32 }
-        ensures { result ≡ checked (option_copied key.entry) parameters.now results.now (parts_of covered.now) body.now };
+        ensures { result ≡ checked (option_copied key.entry) parameters.now results.now
+            (parts_of covered.now) body.now };
 
     /// Judges an operation, and opens the body where it is Right. Else the body stays.
     fn unseal(
@@ -73,9 +74,11 @@ pub trait CipherContext {
         requires key { IsShort (option_copied key) }
         requires body { length body.old ≤ 2 ^ 32 }
         ensures judged { result
-            ≡ checked (option_copied key.entry) parameters.now results.now (parts_of covered.now) body.old }
+            ≡ checked (option_copied key.entry) parameters.now results.now (parts_of covered.now)
+            body.old }
         ensures body { body.new
-            ≡ opened (option_copied key.entry) parameters.now results.now (parts_of covered.now) body.old };
+            ≡ opened (option_copied key.entry) parameters.now results.now (parts_of covered.now)
+            body.old };
 
     /// Seals the body in place, makes its tag at the front of `tag`, and returns the tag's length, at most 64; or answers the
     /// first of the reasons BadParameter, KeyLength and UnwrapRefused that holds, and the body stays.
@@ -90,7 +93,8 @@ pub trait CipherContext {
         requires sealed { IsTrue (is_sealed (target_of covered.now.target)) }
         requires key { length key.now ≤ 2 ^ 32 }
         requires body { length body.old ≤ 2 ^ 32 }
-        ensures { Seals result body.old body.new tag.new (sealed key.now parameters.now (parts_of covered.now) body.old) };
+        ensures { Seals result body.old body.new tag.new
+            (sealed key.now parameters.now (parts_of covered.now) body.old) };
 
     /// The scope flags of the parameters modulo 8, where they are well formed, else 0.
     fn scope_of(&self, parameters: &[Pair]) -> u64

@@ -142,8 +142,10 @@ fn put_tag(out: &mut [u8], tag: &[u8; 16])
 fn seal_whole(sealer: Sealer, vector: &[u8], body: &mut Bytes) -> [u8; 16]
     requires vector { 0 < length vector.now }
     requires body { length body.old ≤ 2 ^ 32 }
-    ensures body { (words : ℕ) (key aad : List ℕ) → IsReady words key aad sealer → body.new ≡ ciphered (cipher words key) vector.now body.old }
-    ensures tag { (words : ℕ) (key aad : List ℕ) → IsReady words key aad sealer → result ≡ tag_of (cipher words key) vector.now aad body.new }
+    ensures body { (words : ℕ) (key aad : List ℕ) → IsReady words key aad sealer
+        → body.new ≡ ciphered (cipher words key) vector.now body.old }
+    ensures tag { (words : ℕ) (key aad : List ℕ) → IsReady words key aad sealer
+        → result ≡ tag_of (cipher words key) vector.now aad body.new }
 {
     sealer.seal(vector, body.as_mut_slice())
 }

@@ -76,7 +76,8 @@ pub(crate) fn gcm_parameters(parameters: &[Pair]) -> Result<GcmParameters<'_>, M
     ensures err { OnErr result (bad_parameters parameters.now ≡ true) }
     ensures vector { IfOk result (λ given. given.vector.now ≡ vector_of parameters.now) }
     ensures variant { IfOk result (λ given. given.variant ≡ variant_of parameters.now) }
-    ensures wrapped { IfOk result (λ given. option_copied given.wrapped ≡ wrapped_of parameters.now) }
+    ensures wrapped { IfOk result (λ given. option_copied given.wrapped
+        ≡ wrapped_of parameters.now) }
     ensures scope { IfOk result (λ given. given.scope ≡ flags_of parameters.now) }
 {
     let Some(vector) = bytes(parameters, 1, VECTOR)? else {

@@ -62,12 +62,15 @@ pub(crate) fn code_with(
     requires unsealed { IsFalse (is_sealed (target_of covered.now.target)) }
     requires key { length key.now ≤ 2 ^ 32 }
     requires body { length (body_of (target_of covered.now.target)) ≤ 2 ^ 32 }
-    ensures ok { OnOk result (first (key_refusals (option_copied given.now.wrapped) key.now) ≡ None) }
-    ensures err { IfErr result (λ reason. first (key_refusals (option_copied given.now.wrapped) key.now)
+    ensures ok { OnOk result (first (key_refusals (option_copied given.now.wrapped) key.now)
+        ≡ None) }
+    ensures err { IfErr result (λ reason.
+        first (key_refusals (option_copied given.now.wrapped) key.now)
         ≡ Some reason) }
     ensures len { IfOk result (λ len. len ≡ size_of given.now.variant) }
     ensures code { OnOk result (take (size_of given.now.variant) tag.new
-        ≡ hmac_of given.now.variant (working_key (option_copied given.now.wrapped) key.now) (ippt (scoped (parts_of covered.now) given.now.scope))) }
+        ≡ hmac_of given.now.variant (working_key (option_copied given.now.wrapped) key.now)
+        (ippt (scoped (parts_of covered.now) given.now.scope))) }
 {
     let Some(wrapped) = given.wrapped else {
         return Ok(code(given.variant, key, covered, given.scope, tag));

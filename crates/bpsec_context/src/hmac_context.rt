@@ -12,6 +12,7 @@ use crate::judgement::{Judgement, MissetReason};
 use crate::pairs::{bytes, exactly};
 use bpsec_asb::Pair;
 use bpsec_scope::Covered;
+use gf2_polynomial::same_bytes;
 
 /// The security context BIB-HMAC-SHA2.
 #[derive(Clone, Copy, Debug)]
@@ -48,7 +49,7 @@ impl IntegrityContext for HmacContext {
         let mut code = [0; 64];
         match code_with(&given, key, covered, &mut code) {
             Err(reason) => Judgement::Misset(reason),
-            Ok(len) if tag == &code[..len] => Judgement::Right,
+            Ok(len) if same_bytes(tag, &code[..len]) => Judgement::Right,
             Ok(_) => Judgement::Wrong,
         }
     }

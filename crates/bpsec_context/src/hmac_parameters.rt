@@ -69,7 +69,8 @@ pub(crate) fn hmac_parameters(parameters: &[Pair]) -> Result<HmacParameters<'_>,
     ensures ok { OnOk result (bad_parameters parameters.now ≡ false) }
     ensures err { OnErr result (bad_parameters parameters.now ≡ true) }
     ensures variant { IfOk result (λ given. given.variant ≡ variant_of parameters.now) }
-    ensures wrapped { IfOk result (λ given. option_copied given.wrapped ≡ wrapped_of parameters.now) }
+    ensures wrapped { IfOk result (λ given. option_copied given.wrapped
+        ≡ wrapped_of parameters.now) }
     ensures scope { IfOk result (λ given. given.scope ≡ flags_of parameters.now) }
 {
     let variant = variant(parameters)?;

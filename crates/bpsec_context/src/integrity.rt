@@ -46,7 +46,8 @@ pub trait IntegrityContext {
         requires unsealed { IsFalse (is_sealed (target_of covered.now.target)) }
         requires key { IsShort (option_copied key) }
         requires body { length (body_of (target_of covered.now.target)) ≤ 2 ^ 32 }
-        ensures { result ≡ judged (option_copied key.entry) parameters.now results.now (parts_of covered.now) };
+        ensures { result ≡ judged (option_copied key.entry) parameters.now results.now
+            (parts_of covered.now) };
 
     /// Makes the tag of an operation at the front of `tag`, and returns its length, at most 64; or answers the first of the
     /// reasons BadParameter, KeyLength and UnwrapRefused that holds.

@@ -83,11 +83,17 @@ pub(crate) fn opening_of<'a>(
     body: &[u8],
 ) -> Result<Opening<'a>, MissetReason>
     requires { IsTrue (is_sealed (target_of covered.now.target)) }
-    ensures ok { OnOk result (first (refusals (option_copied key.entry) parameters.now results.now body.now) ≡ None) }
-    ensures err { IfErr result (λ reason. first (refusals (option_copied key.entry) parameters.now results.now body.now) ≡ Some reason) }
-    ensures ready { IfOk result (λ o. IsReady (words_of (variant_of parameters.now)) (working_key (wrapped_of parameters.now) (unwrap_or (option_copied key.entry) []))
+    ensures ok { OnOk result (first
+        (refusals (option_copied key.entry) parameters.now results.now body.now) ≡ None) }
+    ensures err { IfErr result (λ reason.
+        first (refusals (option_copied key.entry) parameters.now results.now body.now)
+        ≡ Some reason) }
+    ensures ready { IfOk result (λ o.
+        IsReady (words_of (variant_of parameters.now))
+        (working_key (wrapped_of parameters.now) (unwrap_or (option_copied key.entry) []))
         (aad (scoped (parts_of covered.now) (flags_of parameters.now))) o.sealer) }
-    ensures vector { IfOk result (λ o. (o.vector.now ≡ vector_of parameters.now) × (0 < length o.vector.now)) }
+    ensures vector { IfOk result (λ o. (o.vector.now ≡ vector_of parameters.now)
+        × (0 < length o.vector.now)) }
     ensures tag { IfOk result (λ o. o.tag ≡ tag_in (result_given results.now) body.now) }
     ensures ciphertext { IfOk result (λ o. (o.len ≤ length body.now)
         × (take o.len body.now ≡ ciphertext_in (result_given results.now) body.now)) }
@@ -121,7 +127,8 @@ fn unseal_front(sealer: Sealer, vector: &[u8], body: &mut [u8], len: usize, tag:
     ensures right { (words : ℕ) (key aad : List ℕ) → IsReady words key aad sealer
         → result ≡ bytes_eq tag.now (tag_of (cipher words key) vector.now aad (take len body.old)) }
     ensures opened { (words : ℕ) (key aad : List ℕ) → IsReady words key aad sealer
-        → OnTrue result (take len body.new ≡ ciphered (cipher words key) vector.now (take len body.old)) }
+        → OnTrue result (take len body.new
+        ≡ ciphered (cipher words key) vector.now (take len body.old)) }
     ensures stays { OnFalse result (body.new ≡ body.old) }
 {
     sealer.unseal(vector, &mut body[..len], tag)
@@ -133,7 +140,9 @@ impl Opening<'_> {
         requires vector { 0 < length self.vector.now }
         requires within { self.len ≤ length body.now }
         ensures { (words : ℕ) (key aad : List ℕ) → IsReady words key aad self.entry.sealer
-            → result ≡ bytes_eq self.entry.tag (tag_of (cipher words key) self.entry.vector.now aad (take self.entry.len body.now)) }
+            → result ≡ bytes_eq self.entry.tag
+            (tag_of (cipher words key) self.entry.vector.now aad
+            (take self.entry.len body.now)) }
     {
         let Opening {
             sealer,
@@ -150,7 +159,9 @@ impl Opening<'_> {
         requires within { self.len ≤ length body.old }
         requires body { length body.old ≤ 2 ^ 32 }
         ensures right { (words : ℕ) (key aad : List ℕ) → IsReady words key aad self.entry.sealer
-            → result ≡ bytes_eq self.entry.tag (tag_of (cipher words key) self.entry.vector.now aad (take self.entry.len body.old)) }
+            → result ≡ bytes_eq self.entry.tag
+            (tag_of (cipher words key) self.entry.vector.now aad
+            (take self.entry.len body.old)) }
         ensures opened { (words : ℕ) (key aad : List ℕ) → IsReady words key aad self.entry.sealer
             → OnTrue result (body.new
             ≡ ciphered (cipher words key) self.entry.vector.now (take self.entry.len body.old)) }

@@ -85,7 +85,8 @@ pub(crate) fn number(pairs: &[Pair], id: u64) -> Result<Option<u64>, Malformed>
 pub(crate) fn bytes(pairs: &[Pair], id: u64, lengths: Lengths) -> Result<Option<&[u8]>, Malformed>
     requires { 0 < lengths.group }
     ensures means { IsGiven option_copied result (given (bytes_of lengths) id pairs.now) }
-    ensures fits { IfOk result (λ content. ForSome content (λ bytes. IsTrue (has_length lengths (length bytes.now)))) }
+    ensures fits { IfOk result (λ content.
+        ForSome content (λ bytes. IsTrue (has_length lengths (length bytes.now)))) }
 {
     match value(pairs, id) {
         Err(malformed) => Err(malformed),

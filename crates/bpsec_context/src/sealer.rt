@@ -94,7 +94,8 @@ fn gcm<const NK: usize>(key: &[u8], covered: &Covered, scope: u64) -> Gcm<NK>
 fn sealer_of(variant: GcmVariant, key: &[u8], covered: &Covered, scope: u64) -> Sealer
     requires key { length key.now ≡ 4 * words_of variant }
     requires sealed { IsTrue (is_sealed (target_of covered.now.target)) }
-    ensures { IsReady (words_of variant) key.now (aad (scoped (parts_of covered.now) scope)) result }
+    ensures { IsReady (words_of variant) key.now (aad (scoped (parts_of covered.now) scope))
+        result }
 {
     match variant {
         GcmVariant::Aes128 => Sealer::Aes128(gcm::<4>(key, covered, scope)),
@@ -109,10 +110,14 @@ pub(crate) fn sealer_with(
     covered: &Covered,
 ) -> Result<Sealer, MissetReason>
     requires { IsTrue (is_sealed (target_of covered.now.target)) }
-    ensures ok { OnOk result (first (key_refusals given.now.variant (option_copied given.now.wrapped) key.now)
+    ensures ok { OnOk result (first
+        (key_refusals given.now.variant (option_copied given.now.wrapped) key.now)
         ≡ None) }
-    ensures err { IfErr result (λ reason. first (key_refusals given.now.variant (option_copied given.now.wrapped) key.now) ≡ Some reason) }
-    ensures ready { IfOk result (IsReady (words_of given.now.variant) (working_key (option_copied given.now.wrapped) key.now)
+    ensures err { IfErr result (λ reason.
+        first (key_refusals given.now.variant (option_copied given.now.wrapped) key.now)
+        ≡ Some reason) }
+    ensures ready { IfOk result (IsReady (words_of given.now.variant)
+        (working_key (option_copied given.now.wrapped) key.now)
         (aad (scoped (parts_of covered.now) given.now.scope))) }
 {
     let len = 4 * given.variant.words();

@@ -73,7 +73,8 @@ pub trait Suite {
         requires unsealed { IsFalse (is_sealed (target_of covered.now.target)) }
         requires key { IsShort (option_copied key) }
         requires body { length (body_of (target_of covered.now.target)) ≤ 2 ^ 32 }
-        ensures { result ≡ judged context (option_copied key.entry) parameters.now results.now (parts_of covered.now) };
+        ensures { result ≡ judged context (option_copied key.entry) parameters.now results.now
+            (parts_of covered.now) };
 
     /// Makes the tag of an integrity operation at the front of `tag`, and returns its length, at most 64; or answers the first
     /// of the reasons UnknownContext, OtherService, BadParameter, KeyLength and UnwrapRefused that holds.
@@ -88,7 +89,8 @@ pub trait Suite {
         requires unsealed { IsFalse (is_sealed (target_of covered.now.target)) }
         requires key { length key.now ≤ 2 ^ 32 }
         requires body { length (body_of (target_of covered.now.target)) ≤ 2 ^ 32 }
-        ensures { Signs result tag.new (signed context key.now parameters.now (parts_of covered.now)) };
+        ensures { Signs result tag.new
+            (signed context key.now parameters.now (parts_of covered.now)) };
 
     /// Judges a confidentiality operation, and opens nothing.
     fn check(
@@ -103,7 +105,8 @@ pub trait Suite {
         requires sealed { IsTrue (is_sealed (target_of covered.now.target)) }
         requires key { IsShort (option_copied key) }
         requires body { length body.now ≤ 2 ^ 32 }
-        ensures { result ≡ checked context (option_copied key.entry) parameters.now results.now (parts_of covered.now) body.now };
+        ensures { result ≡ checked context (option_copied key.entry) parameters.now results.now
+            (parts_of covered.now) body.now };
 
     /// Judges a confidentiality operation, and opens the body where it is Right. Else the body stays.
     fn unseal(
@@ -119,9 +122,11 @@ pub trait Suite {
         requires key { IsShort (option_copied key) }
         requires body { length body.old ≤ 2 ^ 32 }
         ensures judged { result
-            ≡ checked context (option_copied key.entry) parameters.now results.now (parts_of covered.now) body.old }
+            ≡ checked context (option_copied key.entry) parameters.now results.now
+            (parts_of covered.now) body.old }
         ensures body { body.new
-            ≡ opened context (option_copied key.entry) parameters.now results.now (parts_of covered.now) body.old };
+            ≡ opened context (option_copied key.entry) parameters.now results.now
+            (parts_of covered.now) body.old };
 
     /// Seals the body in place, makes its tag at the front of `tag`, and returns the tag's length, at most 64; or answers the
     /// first of the reasons UnknownContext, OtherService, BadParameter, KeyLength and UnwrapRefused that holds, and the body
@@ -138,7 +143,8 @@ pub trait Suite {
         requires sealed { IsTrue (is_sealed (target_of covered.now.target)) }
         requires key { length key.now ≤ 2 ^ 32 }
         requires body { length body.old ≤ 2 ^ 32 }
-        ensures { Seals result body.old body.new tag.new (sealed context key.now parameters.now (parts_of covered.now) body.old) };
+        ensures { Seals result body.old body.new tag.new
+            (sealed context key.now parameters.now (parts_of covered.now) body.old) };
 
     /// What was signed is judged Right.
     ghost signed_is_right: { (context : ℤ) (key : List ℕ) (parameters : List Pair) (parts : Parts) (tag : List ℕ)

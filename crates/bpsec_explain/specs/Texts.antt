@@ -2,8 +2,7 @@
 use Rattle.std.specs.Prelude.{ℕ, ℤ, false, List, [], ◌∷◌, ◌++◌, codes}
 use Rattle.std.specs.Fmt.{decimal, digits, signed_decimal}
 use Rattle.cbor_profile.specs.declared.fault.Fault.{Fault}
-use Rattle.cbor_profile.specs.declared.fault.Reason.{Reason}
-use Rattle.cbor_profile.specs.declared.fault.Reason.TheVariants as reasons
+use Rattle.cbor_profile.specs.Reasons.{reason_name}
 use Rattle.bpsec_asb.specs.declared.operation.Service.{Service}
 use Rattle.bpsec_asb.specs.declared.operation.Service.TheVariants.{Bib, Bcb}
 
@@ -26,19 +25,6 @@ flags_item n = codes " flags=0x" ++ digits 16 false n
 abbrev pub service_name : Service → List ℕ
 service_name Bib = codes "bib"
 service_name Bcb = codes "bcb"
-
-abbrev pub reason_name : Reason → List ℕ
-reason_name reasons.NotBundle = codes "NotBundle"
-reason_name reasons.Truncated = codes "Truncated"
-reason_name reasons.NotShortest = codes "NotShortest"
-reason_name reasons.WrongKind = codes "WrongKind"
-reason_name reasons.WrongCount = codes "WrongCount"
-reason_name reasons.WrongValue = codes "WrongValue"
-reason_name reasons.WrongText = codes "WrongText"
-reason_name reasons.WrongCheck = codes "WrongCheck"
-reason_name reasons.TooLong = codes "TooLong"
-reason_name reasons.Trailing = codes "Trailing"
-reason_name reasons.Repeated = codes "Repeated"
 
 abbrev pub unreadable_line : List ℕ
 unreadable_line = codes "unreadable" ++ newline

@@ -25,7 +25,7 @@ pub(crate) fn put_previous_node(alloc: Global, body: &[u8], out: &mut Bytes) -> 
             out.extend(b"\n")
         }
         Err(SpellError::Fault(_)) => out.extend(b"unreadable\n"),
-        Err(SpellError::NoMemory) => Err(NoMemory),
+        Err(SpellError::NoMemory) => Err(NoMemory::again()),
     }
 }
 

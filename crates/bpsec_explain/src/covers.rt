@@ -8,7 +8,7 @@ ghost use Rattle.bpsec_scope.specs.Target.{PrimaryBlock, Sealed};
 ghost use Rattle.bpsec_scope.specs.Covered.{scoped, front};
 ghost use Rattle.bpsec_explain.specs.Covers.{whole_number, scope_of, scope_id, context_of, scope, may_target, header_of, covers};
 
-use bp_blocks::Block;
+use bp_blocks::{Block, block_with};
 use bp_bundle::Bundle;
 use bp_eid::reading::number;
 use bp_primary::Primary;
@@ -30,7 +30,8 @@ fn whole_number(value: &[u8]) -> Option<u64>
 
 /// The scope that the pairs of this id give, with one that was found before.
 fn scope_after(id: u64, found: Option<&Pair>, pairs: &[Pair]) -> Option<u64>
-    ensures { result ≡ scope_of (option_to_list (option_copied found.entry) ++ filter (λ p. p.id == id) pairs.now) }
+    ensures { result ≡ scope_of (option_to_list (option_copied found.entry)
+        ++ filter (λ p. p.id == id) pairs.now) }
 {
     let [pair, rest @ ..] = pairs else {
         return match found {
@@ -107,7 +108,12 @@ fn beside(
     flags: u64,
 ) -> Result<Bytes, NoMemory>
     ensures { IfOk result (λ bytes. bytes ≡ front (scoped
-        (record { target = Sealed; primary = primary.now; target_header = Some target; security_header = security }) flags)) }
+        (record {
+          target = Sealed;
+          primary = primary.now;
+          target_header = Some target;
+          security_header = security;
+        }) flags)) }
 {
     let covered = Covered {
         target: TargetOf::Sealed,
@@ -129,7 +135,12 @@ fn beside_primary(
     flags: u64,
 ) -> Result<Bytes, NoMemory>
     ensures { IfOk result (λ bytes. bytes ≡ front (scoped
-        (record { target = PrimaryBlock; primary = primary.now; target_header = None; security_header = security }) flags)) }
+        (record {
+          target = PrimaryBlock;
+          primary = primary.now;
+          target_header = None;
+          security_header = security;
+        }) flags)) }
 {
     let covered = Covered {
         target: TargetOf::Primary,
@@ -143,12 +154,6 @@ fn beside_primary(
     let behind = primary.size() as usize;
     bytes.truncate(bytes.len().saturating_sub(behind));
     Ok(bytes)
-}
-
-fn block_at(blocks: &[Block], number: u64) -> Option<&Block>
-    ensures { option_copied result ≡ find (λ block. block.number == number) blocks.now }
-{
-    blocks.iter().find(|block| block.number == number)
 }
 
 /// The scope flags of an operation and what it covers beside its target, where both can be told.
@@ -175,7 +180,7 @@ pub(crate) fn covers(
             Service::Bcb => Ok(None),
         };
     }
-    let Some(there) = block_at(bundle.blocks(), target) else {
+    let Some(there) = block_with(bundle.blocks(), target) else {
         return Ok(None);
     };
     if !may_target(service, there.kind) {

@@ -10,6 +10,3 @@ mod text;
 mod whole;
 
 pub use whole::explain;
-
-#[cfg(test)]
-mod tests;

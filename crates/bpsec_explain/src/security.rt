@@ -73,7 +73,8 @@ fn put_op(
     target: u64,
     out: &mut Bytes,
 ) -> Result<(), NoMemory>
-    ensures { OnOk result (out.new ≡ out.old ++ op_line of.entry.bundle.now of.entry.service of.entry.block.now asb.now target) }
+    ensures { OnOk result (out.new ≡ out.old
+        ++ op_line of.entry.bundle.now of.entry.service of.entry.block.now asb.now target) }
 {
     let told = covers(alloc, of.bundle, of.service, of.block, asb, target)?;
     out.extend(b"op ")?;
@@ -93,7 +94,8 @@ fn put_ops(
     out: &mut Bytes,
 ) -> Result<(), NoMemory>
     ensures { OnOk result (out.new
-        ≡ out.old ++ flat_map (op_lines of.entry.bundle.now of.entry.service of.entry.block.now asb.now) (zip targets.now results.now)) }
+        ≡ out.old ++ flat_map (op_lines of.entry.bundle.now of.entry.service of.entry.block.now
+        asb.now) (zip targets.now results.now)) }
 {
     let [target, targets @ ..] = targets else {
         return Ok(());
@@ -122,7 +124,8 @@ fn put_parameters(
     parameters: &Option<List<Pair>>,
     out: &mut Bytes,
 ) -> Result<(), NoMemory>
-    ensures { OnOk result (out.new ≡ out.old ++ flat_map (pair_line (codes "parameter id=")) (parameters_of parameters.now)) }
+    ensures { OnOk result (out.new ≡ out.old
+        ++ flat_map (pair_line (codes "parameter id=")) (parameters_of parameters.now)) }
 {
     match parameters {
         Some(parameters) => put_pairs(alloc, "parameter id=", parameters.items(), out),
@@ -132,7 +135,8 @@ fn put_parameters(
 
 #[tactic(auto, unfolding(crate::specs::Lines::asb_lines))]
 fn put_asb(alloc: Global, of: Source, asb: &Asb, out: &mut Bytes) -> Result<(), NoMemory>
-    ensures { OnOk result (out.new ≡ out.old ++ asb_lines of.entry.bundle.now of.entry.service of.entry.block.now asb.now) }
+    ensures { OnOk result (out.new ≡ out.old
+        ++ asb_lines of.entry.bundle.now of.entry.service of.entry.block.now asb.now) }
 {
     put_asb_line(alloc, asb, out)?;
     put_parameters(alloc, &asb.parameters, out)?;
@@ -149,11 +153,12 @@ fn put_asb(alloc: Global, of: Source, asb: &Asb, out: &mut Bytes) -> Result<(), 
 /// The lines of a security block.
 pub(crate) fn put_security(alloc: Global, of: Source, out: &mut Bytes) -> Result<(), NoMemory>
     ensures { OnOk result (out.new
-        ≡ out.old ++ security_lines of.entry.bundle.now of.entry.service of.entry.block.now (read_body of.entry.block.now.body)) }
+        ≡ out.old ++ security_lines of.entry.bundle.now of.entry.service of.entry.block.now
+        (read_body of.entry.block.now.body)) }
 {
     match Asb::read(alloc, of.block.body.as_slice()) {
         Ok(asb) => put_asb(alloc, of, &asb, out),
         Err(SpellError::Fault(fault)) => put_fault(alloc, fault, out),
-        Err(SpellError::NoMemory) => Err(NoMemory),
+        Err(SpellError::NoMemory) => Err(NoMemory::again()),
     }
 }

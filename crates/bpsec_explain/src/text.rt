@@ -2,7 +2,8 @@
 
 ghost use Rattle.std.specs.Prelude.{◌≡◌, ◌++◌, OnOk};
 ghost use Rattle.hex.specs.Hex.{encode_lower};
-ghost use Rattle.bpsec_explain.specs.Texts.{number, signed, flags_item, fault_line, reason_name};
+ghost use Rattle.cbor_profile.specs.Reasons.{reason_name};
+ghost use Rattle.bpsec_explain.specs.Texts.{number, signed, flags_item, fault_line};
 
 use cbor_profile::{Bytes, Fault, NoMemory, Reason};
 use std::alloc::Global;
@@ -42,28 +43,10 @@ pub(crate) fn put_hex(alloc: Global, bytes: &[u8], out: &mut Bytes) -> Result<()
     out.extend(text.as_bytes())
 }
 
-fn reason(reason: Reason) -> &'static str
-    ensures { result.now ≡ reason_name reason }
-{
-    match reason {
-        Reason::NotBundle => "NotBundle",
-        Reason::Truncated => "Truncated",
-        Reason::NotShortest => "NotShortest",
-        Reason::WrongKind => "WrongKind",
-        Reason::WrongCount => "WrongCount",
-        Reason::WrongValue => "WrongValue",
-        Reason::WrongText => "WrongText",
-        Reason::WrongCheck => "WrongCheck",
-        Reason::TooLong => "TooLong",
-        Reason::Trailing => "Trailing",
-        Reason::Repeated => "Repeated",
-    }
-}
-
 fn put_reason(of: Reason, out: &mut Bytes) -> Result<(), NoMemory>
     ensures { OnOk result (out.new ≡ out.old ++ reason_name of) }
 {
-    out.extend(reason(of).as_bytes())
+    out.extend(of.name().as_bytes())
 }
 
 /// The line of a body that isn't readable.

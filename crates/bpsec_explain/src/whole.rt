@@ -62,7 +62,8 @@ fn put_notes(bundle: &Bundle, ops: &[OpId], out: &mut Bytes) -> Result<(), NoMem
 }
 
 fn put_blocks(alloc: Global, bundle: &Bundle, ops: &[OpId], out: &mut Bytes) -> Result<(), NoMemory>
-    ensures { OnOk result (out.new ≡ out.old ++ flat_map (block_lines bundle.now ops.now) bundle.now.blocks) }
+    ensures { OnOk result (out.new ≡ out.old
+        ++ flat_map (block_lines bundle.now ops.now) bundle.now.blocks) }
 {
     for block in bundle.blocks() {
         put_block(alloc, bundle, ops, block, out)?;

@@ -1,19 +1,13 @@
 //! Actions, and what a requirement applies to.
 
-ghost use Rattle.std.specs.Prelude.{◌≡◌, ◌==◌, ◌&&◌, ◌++◌, ◌∷◌, [], map, filter, fold, is_some, IfOk, OnOk};
-ghost use Rattle.std.specs.Option.{option_copied};
-ghost use Rattle.std.specs.List.{flat_map};
-ghost use Rattle.std.specs.BTreeSet.{insert_key};
+ghost use Rattle.std.specs.Prelude.{◌≡◌, ◌==◌, ◌&&◌};
 ghost use Rattle.bpsec_asb.specs.declared.operation.Service.TheVariants.{Bib, Bcb};
 ghost use Rattle.bpsec_policy.specs.Rules.{same_id, same_kind, same_service, allows};
-ghost use Rattle.bpsec_node.specs.Site.{block_at};
 ghost use Rattle.bpsec_node.specs.Plain.{is_acceptor};
-ghost use Rattle.bpsec_node.specs.Events.{join, least_action, is_floored, is_no_target, with_floor, action_by, applies, has_operation, place_cmp, place_of, op_at, reason_by, name_by, missing_by};
-ghost use Rattle.bpsec_node.specs.Finished.{requirement_in, is_missing_in, fault_of, fault_at_in, broken_place, missing_place, places_in, action_in, operation_event_in, broken_event_in, missing_event_in, event_in, events_in};
-ghost use Rattle.bpsec_node.specs.Seen.{seen};
+ghost use Rattle.bpsec_node.specs.Events.{join, least_action, is_floored, is_no_target, with_floor, action_by, applies};
 
 use crate::event::{Event, Verdict};
-use crate::kept::{Kept, same_service};
+use crate::kept::Kept;
 use crate::lists::{find_held, has, is_among};
 use crate::place::Place;
 use crate::site::find_block;
@@ -21,7 +15,7 @@ use bp_blocks::Block;
 use bp_eid::Eid;
 use bpsec_asb::{OpId, Service};
 use bpsec_context::MissetReason;
-use bpsec_policy::{Action, Requirement, Role, Rule, TargetKind};
+use bpsec_policy::{Action, Requirement, Role, Rule, TargetKind, same_id, same_kind, same_service};
 use cbor_profile::{Bytes, Fault, List, NoMemory, Reason};
 use std::alloc::Global;
 use std::collections::BTreeSet;
@@ -98,33 +92,6 @@ pub(crate) fn action_by(rule: &Rule, floored: bool, target: u64, verdict: Verdic
 }
 
 // ---- requirements
-
-pub(crate) fn same_kind(one: TargetKind, other: TargetKind) -> bool
-    ensures { result ≡ same_kind one other }
-{
-    match (one, other) {
-        (TargetKind::Primary, TargetKind::Primary) => true,
-        (TargetKind::Kind(one), TargetKind::Kind(other)) => one == other,
-        _ => false,
-    }
-}
-
-pub(crate) fn same_id(one: &Eid, other: &Eid) -> bool
-    ensures { result ≡ same_id one.now other.now }
-{
-    match (one, other) {
-        (Eid::Null, Eid::Null) => true,
-        (Eid::Dtn(text), Eid::Dtn(other)) => text.bytes() == other.bytes(),
-        (
-            Eid::Ipn { node, service },
-            Eid::Ipn {
-                node: other_node,
-                service: other_service,
-            },
-        ) => node == other_node && service == other_service,
-        _ => false,
-    }
-}
 
 pub(crate) fn allows(from: &Option<Eid>, source: &Eid) -> bool
     ensures { result ≡ allows from.now (same_id source.now) }

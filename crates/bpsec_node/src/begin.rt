@@ -1,7 +1,6 @@
 //! What a node doesn't take.
 
-ghost use Rattle.std.specs.Prelude.{◌≡◌, ◌++◌, map, filter, not, None, [], IfOk, IfErr, OnOk, MatchResult};
-ghost use Rattle.std.specs.List.{flat_map};
+ghost use Rattle.std.specs.Prelude.{◌≡◌, ◌++◌, map, filter, None, [], IfOk, IfErr, OnOk, MatchResult};
 ghost use Rattle.bpsec_asb.specs.Known.{operation, targets_of};
 ghost use Rattle.bpsec_node.specs.Plain.{may_be_covered};
 ghost use Rattle.bpsec_node.specs.Site.{block_at};
@@ -45,6 +44,16 @@ pub enum BeginFault {
     NoMemory,
 }
 
+impl From<NoMemory> for BeginFault {
+    ghost use Rattle.bpsec_node.specs.declared.begin.BeginFault.{BeginFault};
+
+    ghost from_gives = { λ _ fault. fault ≡ BeginFault.NoMemory };
+
+    fn from(_error: NoMemory) -> BeginFault {
+        BeginFault::NoMemory
+    }
+}
+
 /// Reads the block confidentiality blocks.
 fn read_ciphers(alloc: Global, blocks: &[Block]) -> Result<List<Held>, NoMemory>
     ensures { IfOk result (λ held. held ≡ read_those is_cipher blocks.now) }
@@ -53,9 +62,7 @@ fn read_ciphers(alloc: Global, blocks: &[Block]) -> Result<List<Held>, NoMemory>
     for block in blocks {
         if block.kind == 12 {
             let one = read_held(alloc, block.number, block.body.as_slice())?;
-            if held.push(one).is_err() {
-                return Err(NoMemory);
-            }
+            held.append(one)?;
         }
     }
     Ok(held)
@@ -68,14 +75,13 @@ fn read_bibs(
     blocks: &[Block],
     held: &mut List<Held>,
 ) -> Result<(), NoMemory>
-    ensures { OnOk result (held.new ≡ held.old ++ read_those (is_visible_bib sealed.now) blocks.now) }
+    ensures { OnOk result (held.new
+        ≡ held.old ++ read_those (is_visible_bib sealed.now) blocks.now) }
 {
     for block in blocks {
         if block.kind == 11 && !has(sealed, block.number) {
             let one = read_held(alloc, block.number, block.body.as_slice())?;
-            if held.push(one).is_err() {
-                return Err(NoMemory);
-            }
+            held.append(one)?;
         }
     }
     Ok(())
@@ -83,7 +89,8 @@ fn read_bibs(
 
 /// Appends the operations of a security block.
 fn append_held(ops: &mut List<OpId>, service: Service, held: &Held) -> Result<(), NoMemory>
-    ensures { OnOk result (ops.new ≡ ops.old ++ map (operation service held.now.number) (targets_of held.now.read)) }
+    ensures { OnOk result (ops.new ≡ ops.old
+        ++ map (operation service held.now.number) (targets_of held.now.read)) }
 {
     let asb = match &held.read {
         Ok(asb) => asb,
@@ -95,9 +102,7 @@ fn append_held(ops: &mut List<OpId>, service: Service, held: &Held) -> Result<()
             block: held.number,
             target: *target,
         };
-        if ops.push(op).is_err() {
-            return Err(NoMemory);
-        }
+        ops.append(op)?;
     }
     Ok(())
 }
@@ -124,12 +129,13 @@ fn may_be_covered(blocks: &[Block], number: u64) -> bool
 
 /// Those of these operations that cover a block.
 fn covering(alloc: Global, blocks: &[Block], ops: &[OpId]) -> Result<List<OpId>, NoMemory>
-    ensures { IfOk result (λ covers. covers ≡ filter (λ op. may_be_covered (block_at blocks.now op.target)) ops.now) }
+    ensures { IfOk result (λ covers. covers
+        ≡ filter (λ op. may_be_covered (block_at blocks.now op.target)) ops.now) }
 {
     let mut covers = List::new(alloc);
     for op in ops {
-        if may_be_covered(blocks, op.target) && covers.push(*op).is_err() {
-            return Err(NoMemory);
+        if may_be_covered(blocks, op.target) {
+            covers.append(*op)?;
         }
     }
     Ok(covers)
@@ -159,11 +165,15 @@ fn started(
     ops: List<OpId>,
     covers: &[OpId],
 ) -> Result<Start, NoMemory>
-    ensures held { IfOk result (λ s. s.held ≡ ciphers ++ read_those (is_visible_bib (map (λ op. op.target) covers.now)) blocks.now) }
+    ensures held { IfOk result (λ s. s.held
+        ≡ ciphers ++ read_those (is_visible_bib (map (λ op. op.target) covers.now)) blocks.now) }
     ensures sealed { IfOk result (λ s. s.sealed ≡ map (λ op. op.target) covers.now) }
-    ensures open { IfOk result (λ s. s.open ≡ ops ++ ops_of Bib (read_those (is_visible_bib (map (λ op. op.target) covers.now)) blocks.now)) }
+    ensures open { IfOk result (λ s. s.open
+        ≡ ops ++ ops_of Bib (read_those (is_visible_bib (map (λ op. op.target) covers.now))
+        blocks.now)) }
     ensures ready { IfOk result (λ s. s.ready ≡ ready_among (map (λ op. op.target) covers.now)
-        (ops ++ ops_of Bib (read_those (is_visible_bib (map (λ op. op.target) covers.now)) blocks.now))) }
+        (ops ++ ops_of Bib (read_those (is_visible_bib (map (λ op. op.target) covers.now))
+        blocks.now))) }
 {
     let sealed = targets(alloc, covers)?;
     let mut held = ciphers;
@@ -184,26 +194,29 @@ fn started(
 pub(crate) fn begun(alloc: Global, blocks: &[Block]) -> Result<Start, BeginFault>
     ensures readable { OnOk result (least_broken (read_those is_cipher blocks.now) ≡ None) }
     ensures once { OnOk result (double_of (first_covers blocks.now) ≡ None) }
-    ensures held { IfOk result (λ s. s.held ≡ read_those is_cipher blocks.now ++ read_those (is_visible_bib (first_sealed blocks.now)) blocks.now) }
+    ensures held { IfOk result (λ s. s.held
+        ≡ read_those is_cipher blocks.now
+        ++ read_those (is_visible_bib (first_sealed blocks.now)) blocks.now) }
     ensures sealed { IfOk result (λ s. s.sealed ≡ first_sealed blocks.now) }
     ensures open { IfOk result (λ s. s.open ≡ first_ops blocks.now) }
-    ensures ready { IfOk result (λ s. s.ready ≡ ready_among (first_sealed blocks.now) (first_ops blocks.now)) }
+    ensures ready { IfOk result (λ s. s.ready
+        ≡ ready_among (first_sealed blocks.now) (first_ops blocks.now)) }
     ensures err { IfErr result (IsStartFault blocks.now) }
 {
     let ciphers = match read_ciphers(alloc, blocks) {
         Ok(ciphers) => ciphers,
-        Err(NoMemory) => return Err(BeginFault::NoMemory),
+        Err(error) => return Err(error.into()),
     };
     if let Some((block, fault)) = least_broken(ciphers.items()) {
         return Err(BeginFault::BrokenBcb { block, fault });
     }
     let mut ops = List::new(alloc);
-    if append_all(&mut ops, Service::Bcb, ciphers.items()).is_err() {
-        return Err(BeginFault::NoMemory);
+    if let Err(error) = append_all(&mut ops, Service::Bcb, ciphers.items()) {
+        return Err(error.into());
     }
     let covers = match covering(alloc, blocks, ops.items()) {
         Ok(covers) => covers,
-        Err(NoMemory) => return Err(BeginFault::NoMemory),
+        Err(error) => return Err(error.into()),
     };
     if let Some((target, first, second)) = double_of(covers.items()) {
         return Err(BeginFault::DoubleCipher {
@@ -214,7 +227,7 @@ pub(crate) fn begun(alloc: Global, blocks: &[Block]) -> Result<Start, BeginFault
     }
     match started(alloc, blocks, ciphers, ops, covers.items()) {
         Ok(start) => Ok(start),
-        Err(NoMemory) => Err(BeginFault::NoMemory),
+        Err(error) => Err(error.into()),
     }
 }
 
@@ -226,7 +239,8 @@ impl<'a, S: Suite> Session<'a, S> {
         policy: &'a Policy,
         suite: &'a S,
     ) -> Result<Session<'a, S>, BeginFault>
-        ensures ok { IfOk result (λ session. session ≡ record { received = bundle; policy = policy.now; done = []; keys = [] }) }
+        ensures ok { IfOk result (λ session. session
+            ≡ record { received = bundle; policy = policy.now; done = []; keys = [] }) }
         // Which fault it is, or none. Memory may run out in each case.
         ensures exact { MatchResult result (λ _. CanBegin bundle) (IsBeginFault bundle) }
         ensures means { OnOk result (begin_fault bundle ≡ None) }
@@ -261,7 +275,7 @@ impl<'a, S: Suite> Session<'a, S> {
                 keys: List::new(alloc),
                 verdicts: List::new(alloc),
             }),
-            Err(NoMemory) => Err(BeginFault::NoMemory),
+            Err(error) => Err(error.into()),
         }
     }
 }

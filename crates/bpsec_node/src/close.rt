@@ -38,8 +38,17 @@ pub(crate) fn bodies_are_bytes(blocks: &[Block])
 
 /// The resulting bundle, unless it is discarded.
 fn resulting(alloc: Global, kept: &Kept, events: &[Event]) -> Result<Option<Bundle>, NoMemory>
-    requires { is_discarded events.now ≡ false → IsBundle (record { primary = kept.now.primary.now; blocks = blocks_in (seen kept.now) events.now }) }
-    ensures { IfOk result (λ bundle. bundle ≡ (if is_discarded events.now then None else Some (record { primary = kept.now.primary.now; blocks = blocks_in (seen kept.now) events.now }))) }
+    requires { is_discarded events.now ≡ false
+        → IsBundle (record {
+          primary = kept.now.primary.now;
+          blocks = blocks_in (seen kept.now) events.now;
+        }) }
+    ensures { IfOk result (λ bundle. bundle
+        ≡ (if is_discarded events.now then None else Some
+        (record {
+          primary = kept.now.primary.now;
+          blocks = blocks_in (seen kept.now) events.now;
+        }))) }
 {
     if is_discarded(events) {
         return Ok(None);
@@ -62,9 +71,13 @@ struct Ending {
 impl<'a, S: Suite> Session<'a, S> {
     /// Events and bundle, where all operations are done.
     fn ending(&self) -> Result<Ending, NoMemory>
-        requires { ready (situation (meaning S.scope S.judged S.checked S.opened) self.now) self.now.done ≡ [] }
-        ensures events { IfOk result (λ e. e.events ≡ events_of (situation (meaning S.scope S.judged S.checked S.opened) self.now)) }
-        ensures bundle { IfOk result (λ e. e.bundle ≡ (outcome_of (situation (meaning S.scope S.judged S.checked S.opened) self.now)).bundle) }
+        requires { ready (situation (meaning S.scope S.judged S.checked S.opened) self.now)
+            self.now.done ≡ [] }
+        ensures events { IfOk result (λ e. e.events
+            ≡ events_of (situation (meaning S.scope S.judged S.checked S.opened) self.now)) }
+        ensures bundle { IfOk result (λ e. e.bundle
+            ≡ (outcome_of (situation (meaning S.scope S.judged S.checked S.opened)
+            self.now)).bundle) }
     {
         bodies_are_bytes(self.shown.blocks());
         let kept = Kept {
@@ -83,21 +96,27 @@ impl<'a, S: Suite> Session<'a, S> {
 
     /// Ends a session in which nothing is ready. Want of memory hands it back as it was.
     pub fn close(self) -> Result<Outcome, (Session<'a, S>, NoMemory)>
-        requires { ready (situation (meaning S.scope S.judged S.checked S.opened) self) self.done ≡ [] }
-        ensures ok { IfOk result (λ end. end ≡ end_of (situation (meaning S.scope S.judged S.checked S.opened) self.entry) self.entry.done) }
+        requires { ready (situation (meaning S.scope S.judged S.checked S.opened) self) self.done
+            ≡ [] }
+        ensures ok { IfOk result (λ end. end
+            ≡ end_of (situation (meaning S.scope S.judged S.checked S.opened) self.entry)
+            self.entry.done) }
         ensures err { IfErr result (λ back. SameProgress back.0 self.entry) }
     {
         match self.ending() {
             Ok(Ending { bundle, events }) => Ok(self.outcome(bundle, events)),
-            Err(NoMemory) => Err((self, NoMemory)),
+            Err(error) => Err((self, error)),
         }
     }
 
     /// The outcome with these events and this bundle.
     fn outcome(self, bundle: Option<Bundle>, events: List<Event>) -> Outcome
-        requires events { events ≡ events_of (situation (meaning S.scope S.judged S.checked S.opened) self) }
-        requires bundle { bundle ≡ (outcome_of (situation (meaning S.scope S.judged S.checked S.opened) self)).bundle }
-        ensures { result ≡ end_of (situation (meaning S.scope S.judged S.checked S.opened) self.entry) self.entry.done }
+        requires events { events ≡ events_of
+            (situation (meaning S.scope S.judged S.checked S.opened) self) }
+        requires bundle { bundle ≡ (outcome_of
+            (situation (meaning S.scope S.judged S.checked S.opened) self)).bundle }
+        ensures { result ≡ end_of (situation (meaning S.scope S.judged S.checked S.opened)
+            self.entry) self.entry.done }
     {
         let Session { done, verdicts, .. } = self;
         Outcome {

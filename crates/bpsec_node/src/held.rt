@@ -27,6 +27,6 @@ pub(crate) fn read_held(alloc: Global, number: u64, body: &[u8]) -> Result<Held,
             number,
             read: Err(fault),
         }),
-        Err(SpellError::NoMemory) => Err(NoMemory),
+        Err(SpellError::NoMemory) => Err(NoMemory::again()),
     }
 }

@@ -4,11 +4,10 @@ ghost use Rattle.std.specs.Prelude.{◌≡◌, ◌==◌, ◌&&◌, not};
 ghost use Rattle.std.specs.Option.{option_copied};
 ghost use Rattle.std.specs.List.{list_any, position};
 ghost use Rattle.bpsec_node.specs.Situation.{is_op};
-ghost use Rattle.bpsec_policy.specs.Rules.{same_service};
 ghost use Rattle.bpsec_node.specs.Site.{block_at, kind_at};
 ghost use Rattle.bpsec_node.specs.Session.{find_held};
 ghost use Rattle.bpsec_node.specs.Verdict.{is_bib, in_conflict, has_no_role, is_forbidden};
-ghost use Rattle.bpsec_node.specs.Finished.{read_by, rule_in, role_in, verdict_of_place, step_in, unless_conflict, with_conflict, verdict_in};
+ghost use Rattle.bpsec_node.specs.Finished.{read_by, rule_in, role_in, verdict_of_place, step_in, unless_conflict, verdict_in};
 ghost use Rattle.bpsec_node.specs.Seen.{seen};
 
 use crate::event::Verdict;
@@ -36,16 +35,6 @@ pub(crate) struct Kept<'k> {
     pub verdicts: &'k [Verdict],
 }
 
-/// Whether both are the same service.
-pub(crate) fn same_service(one: Service, other: Service) -> bool
-    ensures { result ≡ same_service one other }
-{
-    match (one, other) {
-        (Service::Bib, Service::Bib) | (Service::Bcb, Service::Bcb) => true,
-        _ => false,
-    }
-}
-
 fn is_bib(service: Service) -> bool
     ensures { result ≡ is_bib service }
 {
@@ -57,14 +46,16 @@ fn is_bib(service: Service) -> bool
 
 /// Whether another operation is an integrity operation on the same target.
 fn is_rival(op: OpId, other: OpId) -> bool
-    ensures { result ≡ (is_bib other.service && (other.target == op.target && not (other.block == op.block))) }
+    ensures { result ≡ (is_bib other.service
+        && (other.target == op.target && not (other.block == op.block))) }
 {
     is_bib(other.service) && other.target == op.target && other.block != op.block
 }
 
 /// Whether one of these is an integrity operation on the same target.
 fn has_rival(ops: &[OpId], op: OpId) -> bool
-    ensures { result ≡ list_any (λ other. is_bib other.service && (other.target == op.target && not (other.block == op.block))) ops.now }
+    ensures { result ≡ list_any (λ other. is_bib other.service
+        && (other.target == op.target && not (other.block == op.block))) ops.now }
 {
     ops.iter().any(|other| is_rival(op, *other))
 }

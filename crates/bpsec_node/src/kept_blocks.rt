@@ -1,13 +1,12 @@
 //! The end of a session from what it keeps: the blocks that remain.
 
-ghost use Rattle.std.specs.Prelude.{◌≡◌, ◌==◌, ◌&&◌, ◌++◌, [], ◌∷◌, not, filter, IfOk, OnOk, option_to_list, slice_get};
+ghost use Rattle.std.specs.Prelude.{◌≡◌, ◌==◌, ◌&&◌, ◌++◌, not, filter, IfOk, OnOk, option_to_list, slice_get};
 ghost use Rattle.std.specs.Option.{option_copied};
-ghost use Rattle.std.specs.List.{flat_map, list_any};
-ghost use Rattle.bpsec_asb.specs.SecurityBlock.{spelling};
+ghost use Rattle.std.specs.List.{list_any};
 ghost use Rattle.bpsec_asb.specs.Known.{operation};
 ghost use Rattle.bpsec_node.specs.Outcome.{is_remove, is_discard, lacks_target, removes, is_removed, is_discarded, is_passed, results_without, without, with_targets};
 ghost use Rattle.bpsec_node.specs.Session.{find_held};
-ghost use Rattle.bpsec_node.specs.Finished.{kept_one, is_dropped_in, remaining_read, remaining_held, remaining_in, blocks_in};
+ghost use Rattle.bpsec_node.specs.Finished.{kept_one, is_dropped_in, remaining_held, remaining_in, blocks_in};
 ghost use Rattle.bpsec_node.specs.Seen.{seen};
 
 use crate::actions::{is_acceptor, is_no_target};
@@ -101,9 +100,7 @@ fn copy_pairs(alloc: Global, pairs: &[Pair]) -> Result<List<Pair>, NoMemory>
             id: pair.id,
             value: pair.value.copy(alloc)?,
         };
-        if copies.push(copy).is_err() {
-            return Err(NoMemory);
-        }
+        copies.append(copy)?;
     }
     Ok(copies)
 }
@@ -124,16 +121,15 @@ fn add_copy(
     ensures { OnOk result (kept.new ≡ kept.old ++ option_to_list (option_copied pairs.entry)) }
 {
     if let Some(pairs) = pairs {
-        if kept.push(copy_pairs(alloc, pairs.items())?).is_err() {
-            return Err(NoMemory);
-        }
+        kept.append(copy_pairs(alloc, pairs.items())?)?;
     }
     Ok(())
 }
 
 /// The block with the body of that security block, unless no target is left.
 fn with_targets(alloc: Global, block: &Block, asb: &Asb) -> Result<Option<Block>, NoMemory>
-    ensures { IfOk result (λ left. option_to_list left ≡ with_targets block.now asb.now asb.now.targets) }
+    ensures { IfOk result (λ left. option_to_list left
+        ≡ with_targets block.now asb.now asb.now.targets) }
 {
     if asb.targets.items().is_empty() {
         return Ok(None);
@@ -171,7 +167,8 @@ impl<'k> Kept<'k> {
         targets: &[u64],
     ) -> Result<List<u64>, NoMemory>
         ensures { IfOk result (λ kept. kept
-            ≡ filter (λ target. not (is_dropped_in (seen self.now) events.now (operation service number target))) targets.now) }
+            ≡ filter (λ target. not (is_dropped_in (seen self.now) events.now
+            (operation service number target))) targets.now) }
     {
         let mut kept = List::new(alloc);
         for target in targets {
@@ -180,8 +177,8 @@ impl<'k> Kept<'k> {
                 block: number,
                 target: *target,
             };
-            if !self.is_dropped(events, op) && kept.push(*target).is_err() {
-                return Err(NoMemory);
+            if !self.is_dropped(events, op) {
+                kept.append(*target)?;
             }
         }
         Ok(kept)
@@ -196,7 +193,9 @@ impl<'k> Kept<'k> {
         results: Option<&List<Pair>>,
         kept: &mut List<List<Pair>>,
     ) -> Result<(), NoMemory>
-        ensures { OnOk result (kept.new ≡ kept.old ++ kept_one (is_dropped_in (seen self.now) events.now op) (option_copied results.entry)) }
+        ensures { OnOk result (kept.new
+            ≡ kept.old ++ kept_one (is_dropped_in (seen self.now) events.now op)
+            (option_copied results.entry)) }
     {
         if self.is_dropped(events, op) {
             return Ok(());
@@ -216,7 +215,8 @@ impl<'k> Kept<'k> {
         results: &[List<Pair>],
     ) -> Result<List<List<Pair>>, NoMemory>
         ensures { IfOk result (λ kept. kept
-            ≡ results_without (λ target. is_dropped_in (seen self.now) events.now (operation service number target)) targets.now results.now) }
+            ≡ results_without (λ target. is_dropped_in (seen self.now) events.now
+            (operation service number target)) targets.now results.now) }
     {
         let mut kept = List::new(alloc);
         for (i, target) in targets.iter().enumerate() {
@@ -241,7 +241,8 @@ impl<'k> Kept<'k> {
         asb: &Asb,
     ) -> Result<Asb, NoMemory>
         ensures { IfOk result (λ left. left
-            ≡ without (λ target. is_dropped_in (seen self.now) events.now (operation service number target)) asb.now) }
+            ≡ without (λ target. is_dropped_in (seen self.now) events.now
+            (operation service number target)) asb.now) }
     {
         let targets = asb.targets.items();
         let results = asb.results.items();
@@ -260,7 +261,8 @@ impl<'k> Kept<'k> {
         service: Service,
     ) -> Result<Option<Block>, NoMemory>
         ensures { IfOk result (λ left. option_to_list left
-            ≡ remaining_held (seen self.now) events.now block.now service (find_held self.now.held.now block.now.number)) }
+            ≡ remaining_held (seen self.now) events.now block.now service
+            (find_held self.now.held.now block.now.number)) }
     {
         match find_held(self.held, block.number) {
             Some(held) => match &held.read {
@@ -282,7 +284,8 @@ impl<'k> Kept<'k> {
         events: &[Event],
         block: &Block,
     ) -> Result<Option<Block>, NoMemory>
-        ensures { IfOk result (λ left. option_to_list left ≡ remaining_in (seen self.now) events.now block.now) }
+        ensures { IfOk result (λ left. option_to_list left
+            ≡ remaining_in (seen self.now) events.now block.now) }
     {
         if is_removed(events, block.number) {
             return Ok(None);
@@ -304,9 +307,7 @@ impl<'k> Kept<'k> {
         let mut left = List::new(alloc);
         for block in self.blocks {
             if let Some(block) = self.remaining(alloc, events, block)? {
-                if left.push(block).is_err() {
-                    return Err(NoMemory);
-                }
+                left.append(block)?;
             }
         }
         Ok(left)

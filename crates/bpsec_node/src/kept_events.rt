@@ -1,22 +1,21 @@
 //! The end of a session from what it keeps: events.
 
-ghost use Rattle.std.specs.Prelude.{◌≡◌, ◌==◌, ◌&&◌, ◌++◌, ◌∷◌, [], map, filter, fold, is_some, IfOk, OnOk};
+ghost use Rattle.std.specs.Prelude.{◌≡◌, ◌==◌, ◌&&◌, ◌++◌, map, filter, fold, is_some, IfOk, OnOk};
 ghost use Rattle.std.specs.Option.{option_copied};
 ghost use Rattle.std.specs.List.{flat_map};
 ghost use Rattle.std.specs.BTreeSet.{insert_key};
 ghost use Rattle.bpsec_asb.specs.declared.operation.Service.TheVariants.{Bib, Bcb};
-ghost use Rattle.bpsec_policy.specs.Rules.{same_id, same_kind, same_service, allows};
-ghost use Rattle.bpsec_node.specs.Site.{block_at};
+ghost use Rattle.bpsec_policy.specs.Rules.{same_service};
 ghost use Rattle.bpsec_node.specs.Plain.{is_acceptor};
-ghost use Rattle.bpsec_node.specs.Events.{join, least_action, is_floored, is_no_target, with_floor, action_by, applies, has_operation, place_cmp, place_of, op_at, reason_by, name_by, missing_by};
-ghost use Rattle.bpsec_node.specs.Finished.{requirement_in, is_missing_in, fault_of, fault_at_in, broken_place, missing_place, places_in, action_in, operation_event_in, broken_event_in, missing_event_in, event_in, events_in};
+ghost use Rattle.bpsec_node.specs.Events.{join, least_action, is_floored, is_no_target, with_floor, action_by, applies, has_operation, place_cmp, place_of, op_at, reason_by};
+ghost use Rattle.bpsec_node.specs.Finished.{requirement_in, is_missing_in, fault_of, broken_place, missing_place, places_in, action_in, operation_event_in, broken_event_in, missing_event_in, event_in, events_in};
 ghost use Rattle.bpsec_node.specs.Seen.{seen};
 
 use crate::actions::{
     action_by, applies, is_acceptor, is_floored, is_no_target, join, least_action, with_floor,
 };
 use crate::event::{Event, Verdict};
-use crate::kept::{Kept, same_service};
+use crate::kept::Kept;
 use crate::lists::{find_held, has, is_among};
 use crate::place::Place;
 use crate::site::find_block;
@@ -24,7 +23,7 @@ use bp_blocks::Block;
 use bp_eid::Eid;
 use bpsec_asb::{OpId, Service};
 use bpsec_context::MissetReason;
-use bpsec_policy::{Action, Requirement, Role, Rule, TargetKind};
+use bpsec_policy::{Action, Requirement, Role, Rule, TargetKind, same_service};
 use cbor_profile::{Bytes, Fault, List, NoMemory, Reason};
 use std::alloc::Global;
 use std::collections::BTreeSet;
@@ -66,7 +65,8 @@ fn op_at(place: &Place) -> OpId
 
 /// Adds the places of operations.
 fn add_places(ops: &[OpId], places: &mut BTreeSet<Place>) -> Result<(), NoMemory>
-    ensures { OnOk result (places.new.keys ≡ fold (insert_key place_cmp) places.old.keys (map place_of ops.now)) }
+    ensures { OnOk result (places.new.keys
+        ≡ fold (insert_key place_cmp) places.old.keys (map place_of ops.now)) }
 {
     for op in ops {
         places.insert(place_of(*op))?;
@@ -131,7 +131,8 @@ impl<'k> Kept<'k> {
     /// Adds the places of integrity blocks that couldn't be read.
     fn add_broken(&self, places: &mut BTreeSet<Place>) -> Result<(), NoMemory>
         ensures { OnOk result (places.new.keys ≡ fold (insert_key place_cmp) places.old.keys
-            (map broken_place (filter (λ block. is_some (fault_of (seen self.now) block)) self.now.blocks.now))) }
+            (map broken_place (filter (λ block. is_some (fault_of (seen self.now) block))
+            self.now.blocks.now))) }
     {
         for block in self.blocks {
             if self.fault(block).is_some() {
@@ -152,7 +153,9 @@ impl<'k> Kept<'k> {
         service: Service,
         places: &mut BTreeSet<Place>,
     ) -> Result<(), NoMemory>
-        ensures { OnOk result (places.new.keys ≡ fold (insert_key place_cmp) places.old.keys (missing_place (seen self.now) number service)) }
+        ensures { OnOk result (places.new.keys
+            ≡ fold (insert_key place_cmp) places.old.keys
+            (missing_place (seen self.now) number service)) }
     {
         if self.is_missing(number, service) {
             places.insert(Place {
@@ -167,7 +170,8 @@ impl<'k> Kept<'k> {
     /// Adds the places of the operations that a block lacks.
     fn add_missing_at(&self, number: u64, places: &mut BTreeSet<Place>) -> Result<(), NoMemory>
         ensures { OnOk result (places.new.keys ≡ fold (insert_key place_cmp) places.old.keys
-            (missing_place (seen self.now) number Bib ++ missing_place (seen self.now) number Bcb)) }
+            (missing_place (seen self.now) number Bib
+            ++ missing_place (seen self.now) number Bcb)) }
     {
         self.add_missing(number, Service::Bib, places)?;
         self.add_missing(number, Service::Bcb, places)
@@ -176,7 +180,8 @@ impl<'k> Kept<'k> {
     /// Adds the places of the operations that the canonical blocks lack.
     fn add_all_missing(&self, places: &mut BTreeSet<Place>) -> Result<(), NoMemory>
         ensures { OnOk result (places.new.keys ≡ fold (insert_key place_cmp) places.old.keys
-            (flat_map (λ number. missing_place (seen self.now) number Bib ++ missing_place (seen self.now) number Bcb)
+            (flat_map (λ number. missing_place (seen self.now) number Bib
+            ++ missing_place (seen self.now) number Bcb)
             (map (λ block. block.number) self.now.blocks.now))) }
     {
         for block in self.blocks {
@@ -286,9 +291,7 @@ impl<'k> Kept<'k> {
     {
         let mut events = List::new(alloc);
         for place in places {
-            if events.push(self.event(alloc, place)?).is_err() {
-                return Err(NoMemory);
-            }
+            events.append(self.event(alloc, place)?)?;
         }
         Ok(events)
     }

@@ -35,9 +35,11 @@ use crate::chooser::Chooser;
 
 /// The block that is found with a number is the one that has it.
 pub fn blocks_are_found_by_their_numbers()
-    ensures means { (blocks : List Block) (number : ℕ) (block : Block) → block_at blocks number ≡ Some block
+    ensures means { (blocks : List Block) (number : ℕ) (block : Block)
+        → block_at blocks number ≡ Some block
         → Contains blocks block × (block.number ≡ number) }
-    ensures found { (bundle : Contents) (block : Block) → IsBundle bundle → Contains bundle.blocks block
+    ensures found { (bundle : Contents) (block : Block) → IsBundle bundle
+        → Contains bundle.blocks block
         → block_at bundle.blocks block.number ≡ Some block }
 {}
 
@@ -48,8 +50,10 @@ pub fn parts_are_those_of_the_bundle()
         → IsPartsOf bundle op (parts (site bundle op) op) }
     ensures integrity { (bundle : Contents) (op : OpId) → IsBundle bundle → op.service ≡ Bib
         → IsParts (parts (site bundle op) op) }
-    ensures confidentiality { (bundle : Contents) (op : OpId) (block : Block) → IsBundle bundle → op.service ≡ Bcb
-        → Contains bundle.blocks block → block.number ≡ op.target → IsParts (parts (site bundle op) op) }
+    ensures confidentiality { (bundle : Contents) (op : OpId) (block : Block) → IsBundle bundle
+        → op.service ≡ Bcb
+        → Contains bundle.blocks block → block.number ≡ op.target
+        → IsParts (parts (site bundle op) op) }
 {}
 
 /// The operation that is found as the cover of a block is one that covers it (RFC 9172, section 3.8), and a block
@@ -57,11 +61,14 @@ pub fn parts_are_those_of_the_bundle()
 pub fn covers_are_found()
     ensures means { (blocks : List Block) (number : ℕ) (op : OpId) → BodiesAreBytes blocks
         → cover blocks number ≡ Some op → IsOperationOf blocks op × Covers blocks op number }
-    ensures found { (bundle : Contents) (number : ℕ) → IsBundle bundle → cover bundle.blocks number ≡ None
+    ensures found { (bundle : Contents) (number : ℕ) → IsBundle bundle
+        → cover bundle.blocks number ≡ None
         → IsVisible bundle.blocks number }
     ensures only { (bundle : Contents) (number : ℕ) (op : OpId) → IsBundle bundle → CanBegin bundle
-        → IsOperationOf bundle.blocks op → Covers bundle.blocks op number → cover bundle.blocks number ≡ Some op }
-    ensures none { (blocks : List Block) (number : ℕ) → BodiesAreBytes blocks → IsVisible blocks number
+        → IsOperationOf bundle.blocks op → Covers bundle.blocks op number
+        → cover bundle.blocks number ≡ Some op }
+    ensures none { (blocks : List Block) (number : ℕ) → BodiesAreBytes blocks
+        → IsVisible blocks number
         → cover blocks number ≡ None }
 {}
 
@@ -79,29 +86,37 @@ pub fn the_first_that_stands_in_the_way_is_found()
 pub fn all_operations_are_known_or_revealed()
     ensures means { (s : Situation) (op : OpId) → IsBundle s.bundle → BodiesAreBytes s.bundle.blocks
         → BodiesAreBytes (revealed s) → Contains (all_operations s) op
-        → IsKnown s.bundle.blocks op ⊎ ((block : Block) × Contains (revealed s) block × IsHeldBy op block) }
-    ensures known { (s : Situation) (op : OpId) → BodiesAreBytes s.bundle.blocks → IsKnown s.bundle.blocks op
+        → IsKnown s.bundle.blocks op ⊎ ((block : Block) × Contains (revealed s) block
+        × IsHeldBy op block) }
+    ensures known { (s : Situation) (op : OpId) → BodiesAreBytes s.bundle.blocks
+        → IsKnown s.bundle.blocks op
         → Contains (all_operations s) op }
-    ensures revealed { (s : Situation) (block : Block) (op : OpId) → op.service ≡ Bib → Contains (revealed s) block
+    ensures revealed { (s : Situation) (block : Block) (op : OpId) → op.service ≡ Bib
+        → Contains (revealed s) block
         → IsHeldBy op block → Contains (all_operations s) op }
 {}
 
 /// What was done in a legal order stands, whatever keys come later: the verdicts of its steps, the bundle as it is
 /// shown, and what is ready. And it was legal.
 pub fn what_is_done_stands()
-    ensures verdict { (s : Situation) (key : OpId → Option (List ℕ)) (done : List OpId) (op : OpId) → Agree s key done
+    ensures verdict { (s : Situation) (key : OpId → Option (List ℕ)) (done : List OpId) (op : OpId)
+        → Agree s key done
         → Legal s done → Contains done op → step_verdict s op ≡ step_verdict (with_keys s key) op }
-    ensures shown { (s : Situation) (key : OpId → Option (List ℕ)) (done : List OpId) → Agree s key done
+    ensures shown { (s : Situation) (key : OpId → Option (List ℕ)) (done : List OpId)
+        → Agree s key done
         → shown s done ≡ shown (with_keys s key) done }
-    ensures ready { (s : Situation) (key : OpId → Option (List ℕ)) (done : List OpId) → Agree s key done
+    ensures ready { (s : Situation) (key : OpId → Option (List ℕ)) (done : List OpId)
+        → Agree s key done
         → ready s done ≡ ready (with_keys s key) done }
-    ensures legal { (s : Situation) (key : OpId → Option (List ℕ)) (done : List OpId) → Agree s key done → Legal s done
+    ensures legal { (s : Situation) (key : OpId → Option (List ℕ)) (done : List OpId)
+        → Agree s key done → Legal s done
         → Legal (with_keys s key) done }
 {}
 
 /// Events and resulting bundle depend on the keys of all operations alone.
 pub fn the_outcome_depends_on_the_keys_of_the_operations()
-    ensures { (s : Situation) (key : OpId → Option (List ℕ)) → IsBundle s.bundle → Agree s key (all_operations s)
+    ensures { (s : Situation) (key : OpId → Option (List ℕ)) → IsBundle s.bundle
+        → Agree s key (all_operations s)
         → outcome s ≡ outcome (with_keys s key) }
 {}
 
@@ -109,16 +124,20 @@ pub fn the_outcome_depends_on_the_keys_of_the_operations()
 /// bundle, policy and suite, in which each operation was handed the same key, end with the same events and the same
 /// bundle, in whatever orders they did the operations. They did the same operations, with the same verdicts.
 pub fn equal_keys_give_equal_outcomes()
-    ensures keys { (s : Situation) (key : OpId → Option (List ℕ)) (done : List OpId) → IsBundle s.bundle
+    ensures keys { (s : Situation) (key : OpId → Option (List ℕ)) (done : List OpId)
+        → IsBundle s.bundle
         → ready s done ≡ [] → Agree s key done → outcome s ≡ outcome (with_keys s key) }
     ensures outcome { (suite : Meaning) (p q : Progress) → Alike p q → IsBundle p.received
-        → ready (situation suite p) p.done ≡ [] → outcome (situation suite p) ≡ outcome (situation suite q) }
+        → ready (situation suite p) p.done ≡ []
+        → outcome (situation suite p) ≡ outcome (situation suite q) }
     ensures done { (suite : Meaning) (p q : Progress) → Alike p q → (op : OpId)
         → Legal (situation suite p) p.done → ready (situation suite p) p.done ≡ []
         → Legal (situation suite q) q.done → ready (situation suite q) q.done ≡ []
         → Contains p.done op ↔ Contains q.done op }
-    ensures verdict { (suite : Meaning) (p q : Progress) → Alike p q → (op : OpId) → Legal (situation suite p) p.done
-        → Contains p.done op → step_verdict (situation suite p) op ≡ step_verdict (situation suite q) op }
+    ensures verdict { (suite : Meaning) (p q : Progress) → Alike p q → (op : OpId)
+        → Legal (situation suite p) p.done
+        → Contains p.done op → step_verdict (situation suite p) op
+        ≡ step_verdict (situation suite q) op }
 {}
 
 /// What a chooser picks after a legal order is legal, whatever it answers.
@@ -133,20 +152,25 @@ pub fn nothing_ready_means_all_done()
     ensures all { (s : Situation) (done : List OpId) (op : OpId) → Legal s done → ready s done ≡ []
         → Contains done op ↔ Contains (all_operations s) op }
     ensures once { (s : Situation) (done : List OpId) → Legal s done → AllPairs ◌≢◌ done }
-    ensures few { (s : Situation) (done : List OpId) → IsBundle s.bundle → Legal s done → length done ≤ 4096 }
+    ensures few { (s : Situation) (done : List OpId) → IsBundle s.bundle → Legal s done
+        → length done ≤ 4096 }
 {}
 
 /// A resulting bundle is a bundle of the profile, of blocks of the received one in their order, with their headers and
 /// check types.
 pub fn resulting_bundles_are_bundles()
-    ensures bundle { (s : Situation) → NeverLonger s.suite → IsBundle s.bundle → BodiesAreBytes (plain s).blocks
+    ensures bundle { (s : Situation) → NeverLonger s.suite → IsBundle s.bundle
+        → BodiesAreBytes (plain s).blocks
         → is_discarded (events s) ≡ false → IsBundle (resulting s) }
-    ensures blocks { (s : Situation) → NeverLonger s.suite → IsBundle s.bundle → BodiesAreBytes (plain s).blocks
+    ensures blocks { (s : Situation) → NeverLonger s.suite → IsBundle s.bundle
+        → BodiesAreBytes (plain s).blocks
         → is_discarded (events s) ≡ false → Shrunk s.bundle.blocks (resulting s).blocks }
 {}
 
 /// At a node each operation has the key that its rule names in the ring.
 pub fn operations_have_the_keys_of_their_rules()
-    ensures { (suite : Meaning) (bundle : Contents) (policy : policies.Parts) (ring : List NamedKey) (op : OpId)
-        → (at_node suite bundle policy ring).key op ≡ key_named ring (rule (at_node suite bundle policy ring) op).key }
+    ensures { (suite : Meaning) (bundle : Contents) (policy : policies.Parts) (ring : List NamedKey)
+        (op : OpId)
+        → (at_node suite bundle policy ring).key op
+        ≡ key_named ring (rule (at_node suite bundle policy ring) op).key }
 {}

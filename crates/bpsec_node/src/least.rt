@@ -1,6 +1,6 @@
 //! What is looked for at the beginning of a session.
 
-ghost use Rattle.std.specs.Prelude.{◌≡◌, ◌==◌, ◌&&◌, not, map, filter, None};
+ghost use Rattle.std.specs.Prelude.{◌≡◌, ◌==◌, ◌&&◌, None};
 ghost use Rattle.bpsec_node.specs.Least.{smaller, smaller_fault, least_broken, is_double, least_double, is_other, least_block, double_of};
 
 use crate::held::Held;

@@ -1,10 +1,8 @@
 //! Lists that a session keeps.
 
-ghost use Rattle.std.specs.Prelude.{◌≡◌, ◌≤◌, ◌+◌, ◌-◌, ◌==◌, ◌++◌, ◌∷◌, [], not, map, filter, take, fold, length, IfOk, OnOk, OnErr, option_to_list};
+ghost use Rattle.std.specs.Prelude.{◌≡◌, ◌≤◌, ◌+◌, ◌-◌, ◌==◌, ◌++◌, ◌∷◌, [], map, take, length, IfOk, OnOk, OnErr, option_to_list};
 ghost use Rattle.std.specs.Option.{option_copied};
-ghost use Rattle.std.specs.BTreeSet.{insert_key};
-ghost use Rattle.bpsec_asb.specs.Order.{op_cmp};
-ghost use Rattle.bpsec_asb.specs.Known.{operation, targets_of};
+ghost use Rattle.bpsec_asb.specs.Known.{operation};
 ghost use Rattle.bpsec_asb.specs.declared.operation.Service.TheVariants.{Bib};
 ghost use Rattle.bpsec_node.specs.Situation.{is_op, is_among};
 ghost use Rattle.bpsec_node.specs.Session.{has, find_held};
@@ -101,9 +99,7 @@ fn append_ops(ops: &mut List<OpId>, block: u64, targets: &[u64]) -> Result<(), N
             block,
             target: *target,
         };
-        if ops.push(op).is_err() {
-            return Err(NoMemory);
-        }
+        ops.append(op)?;
     }
     Ok(())
 }
@@ -174,9 +170,7 @@ pub(crate) fn numbers_with(
 {
     let mut after = List::of(Vec::from_slice(alloc, numbers)?);
     if let Some(number) = more {
-        if after.push(number).is_err() {
-            return Err(NoMemory);
-        }
+        after.append(number)?;
     }
     Ok(after)
 }
@@ -206,18 +200,16 @@ pub(crate) fn note(
     ensures verdicts_stay { OnErr result (verdicts.new ≡ verdicts.old) }
 {
     let count = done.items().len();
-    if done.push(op).is_err() {
-        return Err(NoMemory);
-    }
+    done.append(op)?;
     let keyed = keys.items().len();
-    if keys.push(key).is_err() {
+    if let Err(error) = keys.append(key) {
         cut(done, count);
-        return Err(NoMemory);
+        return Err(error);
     }
-    if verdicts.push(verdict).is_err() {
+    if let Err(error) = verdicts.append(verdict) {
         cut(keys, keyed);
         cut(done, count);
-        return Err(NoMemory);
+        return Err(error);
     }
     Ok(())
 }
@@ -267,15 +259,16 @@ fn keep_held(
     ensures held_stays { OnErr result (held.new ≡ held.old) }
     ensures done_shorter { OnErr result (done.new ≡ take (length done.old - 1) done.old) }
     ensures keys_shorter { OnErr result (keys.new ≡ take (length keys.old - 1) keys.old) }
-    ensures verdicts_shorter { OnErr result (verdicts.new ≡ take (length verdicts.old - 1) verdicts.old) }
+    ensures verdicts_shorter { OnErr result
+        (verdicts.new ≡ take (length verdicts.old - 1) verdicts.old) }
 {
-    match held.push(one) {
+    match held.append(one) {
         Ok(()) => Ok(()),
-        Err(_one) => {
+        Err(error) => {
             cut(done, done.items().len() - 1);
             cut(keys, keys.items().len() - 1);
             cut(verdicts, verdicts.items().len() - 1);
-            Err(NoMemory)
+            Err(error)
         }
     }
 }

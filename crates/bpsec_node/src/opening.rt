@@ -1,16 +1,14 @@
 //! A confidentiality operation that opens the body of its target.
 
-ghost use Rattle.std.specs.Prelude.{◌≡◌, ◌≢◌, ◌≤◌, ◌^◌, false, if◌then◌else◌, Some, None, IsSome, IsFalse, IsTrue, IfOk, length};
+ghost use Rattle.std.specs.Prelude.{◌≡◌, ◌≢◌, false, if◌then◌else◌, Some, None, IsSome, IsFalse, IsTrue, IfOk};
 ghost use Rattle.std.specs.Option.{option_copied};
-ghost use Rattle.bpsec_asb.specs.declared.operation.Service.TheVariants.{Bib, Bcb};
-ghost use Rattle.bpsec_scope.specs.View.{parts_of};
-ghost use Rattle.bpsec_scope.specs.Target.{target_of, is_sealed, body_of};
+ghost use Rattle.bpsec_asb.specs.declared.operation.Service.TheVariants.{Bcb};
 ghost use Rattle.bpsec_context.specs.Calls.{IsShort};
 ghost use Rattle.bpsec_node.specs.Situation.{meaning};
-ghost use Rattle.bpsec_node.specs.Site.{block_at, kind_at, parameters_of, results_of, header_of, parts, integrity_target, target_header, is_narrow, unless_narrow, rule_over, role_over, judge_over, open_over, body_in};
+ghost use Rattle.bpsec_node.specs.Site.{parameters_of, results_of, parts, is_narrow, rule_over, judge_over, open_over, body_in};
 ghost use Rattle.bpsec_node.specs.Plain.{may_be_covered, is_right};
-ghost use Rattle.bpsec_node.specs.Verdict.{is_forbidden, verdict_of, table, has_no_role};
-ghost use Rattle.bpsec_node.specs.Over.{site_in, target_in, type_of, IsRead, IsSmall, verdict_over, opened_over};
+ghost use Rattle.bpsec_node.specs.Verdict.{verdict_of};
+ghost use Rattle.bpsec_node.specs.Over.{site_in, target_in, IsRead, IsSmall, verdict_over, opened_over};
 
 use crate::event::Verdict;
 use crate::over::{Opening, Over};
@@ -37,10 +35,16 @@ impl<'b> Over<'b> {
         requires target { IsSome self.now.target }
         requires small { IsSmall self.now }
         requires key { IsShort (option_copied key) }
-        ensures judged { IfOk result (λ r. r.0 ≡ S.checked self.now.asb.now.context (option_copied key.entry) (parameters_of self.now.asb.now)
-            (results_of self.now.asb.now self.now.op.target) (parts (site_in self.now) self.now.op) (body_in (target_in self.now))) }
-        ensures opened { IfOk result (λ r. r.1 ≡ S.opened self.now.asb.now.context (option_copied key.entry) (parameters_of self.now.asb.now)
-            (results_of self.now.asb.now self.now.op.target) (parts (site_in self.now) self.now.op) (body_in (target_in self.now))) }
+        ensures judged { IfOk result (λ r. r.0
+            ≡ S.checked self.now.asb.now.context (option_copied key.entry)
+            (parameters_of self.now.asb.now)
+            (results_of self.now.asb.now self.now.op.target) (parts (site_in self.now) self.now.op)
+            (body_in (target_in self.now))) }
+        ensures opened { IfOk result (λ r. r.1
+            ≡ S.opened self.now.asb.now.context (option_copied key.entry)
+            (parameters_of self.now.asb.now)
+            (results_of self.now.asb.now self.now.op.target) (parts (site_in self.now) self.now.op)
+            (body_in (target_in self.now))) }
     {
         let covered = self.covered_sealed();
         let mut body = match self.target {
@@ -73,10 +77,17 @@ impl<'b> Over<'b> {
         requires read { IsRead self.now }
         requires small { IsSmall self.now }
         requires key { IsShort (option_copied key) }
-        requires wide { IsFalse (is_narrow (rule_over policy.now (site_in self.now) self.now.op).least_scope (S.scope self.now.asb.now.context (parameters_of self.now.asb.now))) }
-        ensures verdict { IfOk result (λ o. o.verdict ≡ verdict_of (judge_over (meaning S.scope S.judged S.checked S.opened) policy.now (site_in self.now) self.now.op (option_copied key.entry))) }
-        ensures body { IfOk result (λ o. o.body ≡ (if is_right (judge_over (meaning S.scope S.judged S.checked S.opened) policy.now (site_in self.now) self.now.op (option_copied key.entry))
-            then Some (open_over (meaning S.scope S.judged S.checked S.opened) (site_in self.now) self.now.op (option_copied key.entry)) else None)) }
+        requires wide { IsFalse (is_narrow
+            (rule_over policy.now (site_in self.now) self.now.op).least_scope
+            (S.scope self.now.asb.now.context (parameters_of self.now.asb.now))) }
+        ensures verdict { IfOk result (λ o. o.verdict
+            ≡ verdict_of (judge_over (meaning S.scope S.judged S.checked S.opened) policy.now
+            (site_in self.now) self.now.op (option_copied key.entry))) }
+        ensures body { IfOk result (λ o. o.body
+            ≡ (if is_right (judge_over (meaning S.scope S.judged S.checked S.opened) policy.now
+            (site_in self.now) self.now.op (option_copied key.entry))
+            then Some (open_over (meaning S.scope S.judged S.checked S.opened) (site_in self.now)
+            self.now.op (option_copied key.entry)) else None)) }
     {
         match self.unseal(alloc, suite, key) {
             Ok((Judgement::Right, body)) => Ok(Opening {
@@ -87,7 +98,7 @@ impl<'b> Over<'b> {
                 verdict: verdict_of(judgement),
                 body: None,
             }),
-            Err(NoMemory) => Err(NoMemory),
+            Err(error) => Err(error),
         }
     }
 
@@ -99,7 +110,9 @@ impl<'b> Over<'b> {
         requires read { IsRead self.now }
         requires small { IsSmall self.now }
         requires key { IsShort (option_copied key) }
-        ensures verdict { result.verdict ≡ verdict_of (judge_over (meaning S.scope S.judged S.checked S.opened) policy.now (site_in self.now) self.now.op (option_copied key.entry)) }
+        ensures verdict { result.verdict
+            ≡ verdict_of (judge_over (meaning S.scope S.judged S.checked S.opened) policy.now
+            (site_in self.now) self.now.op (option_copied key.entry)) }
         ensures body { result.body ≡ None }
     {
         Opening {
@@ -124,9 +137,14 @@ impl<'b> Over<'b> {
         requires read { IsRead self.now }
         requires small { IsSmall self.now }
         requires key { IsShort (option_copied key) }
-        ensures verdict { IfOk result (λ o. o.verdict ≡ verdict_of (judge_over (meaning S.scope S.judged S.checked S.opened) policy.now (site_in self.now) self.now.op (option_copied key.entry))) }
-        ensures body { IfOk result (λ o. o.body ≡ (if is_right (judge_over (meaning S.scope S.judged S.checked S.opened) policy.now (site_in self.now) self.now.op (option_copied key.entry))
-            then Some (open_over (meaning S.scope S.judged S.checked S.opened) (site_in self.now) self.now.op (option_copied key.entry)) else None)) }
+        ensures verdict { IfOk result (λ o. o.verdict
+            ≡ verdict_of (judge_over (meaning S.scope S.judged S.checked S.opened) policy.now
+            (site_in self.now) self.now.op (option_copied key.entry))) }
+        ensures body { IfOk result (λ o. o.body
+            ≡ (if is_right (judge_over (meaning S.scope S.judged S.checked S.opened) policy.now
+            (site_in self.now) self.now.op (option_copied key.entry))
+            then Some (open_over (meaning S.scope S.judged S.checked S.opened) (site_in self.now)
+            self.now.op (option_copied key.entry)) else None)) }
     {
         if self.has_narrow_scope(suite, self.rule(policy)) {
             return Ok(self.check(suite, policy, key));
@@ -148,8 +166,12 @@ impl<'b> Over<'b> {
         requires read { IsRead self.now }
         requires small { IsSmall self.now }
         requires key { IsShort (option_copied key) }
-        ensures verdict { IfOk result (λ o. o.verdict ≡ verdict_over (meaning S.scope S.judged S.checked S.opened) policy.now self.now false (option_copied key.entry)) }
-        ensures body { IfOk result (λ o. o.body ≡ opened_over (meaning S.scope S.judged S.checked S.opened) policy.now self.now (option_copied key.entry)) }
+        ensures verdict { IfOk result (λ o. o.verdict
+            ≡ verdict_over (meaning S.scope S.judged S.checked S.opened) policy.now self.now false
+            (option_copied key.entry)) }
+        ensures body { IfOk result (λ o. o.body
+            ≡ opened_over (meaning S.scope S.judged S.checked S.opened) policy.now self.now
+            (option_copied key.entry)) }
     {
         match self.role(policy) {
             Role::None => Ok(Opening {

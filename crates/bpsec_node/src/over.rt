@@ -1,16 +1,15 @@
 //! An operation over the blocks of a bundle, and how it is judged.
 
-ghost use Rattle.std.specs.Prelude.{◌≡◌, ◌≢◌, ◌≤◌, ◌^◌, false, if◌then◌else◌, Some, None, IsSome, IsFalse, IsTrue, IfOk, length};
+ghost use Rattle.std.specs.Prelude.{◌≡◌, ◌≢◌, ◌≤◌, ◌^◌, false, Some, None, IsSome, IsFalse, IsTrue, length};
 ghost use Rattle.std.specs.Option.{option_copied};
 ghost use Rattle.bpsec_asb.specs.declared.operation.Service.TheVariants.{Bib, Bcb};
 ghost use Rattle.bpsec_scope.specs.View.{parts_of};
 ghost use Rattle.bpsec_scope.specs.Target.{target_of, is_sealed, body_of};
 ghost use Rattle.bpsec_context.specs.Calls.{IsShort};
 ghost use Rattle.bpsec_node.specs.Situation.{meaning};
-ghost use Rattle.bpsec_node.specs.Site.{block_at, kind_at, parameters_of, results_of, header_of, parts, integrity_target, target_header, is_narrow, unless_narrow, rule_over, role_over, judge_over, open_over, body_in};
-ghost use Rattle.bpsec_node.specs.Plain.{may_be_covered, is_right};
-ghost use Rattle.bpsec_node.specs.Verdict.{is_forbidden, verdict_of, table, has_no_role};
-ghost use Rattle.bpsec_node.specs.Over.{site_in, target_in, type_of, IsRead, IsSmall, verdict_over, opened_over};
+ghost use Rattle.bpsec_node.specs.Site.{kind_at, parameters_of, results_of, parts, integrity_target, target_header, is_narrow, unless_narrow, rule_over, role_over, judge_over, body_in};
+ghost use Rattle.bpsec_node.specs.Verdict.{is_forbidden, verdict_of};
+ghost use Rattle.bpsec_node.specs.Over.{site_in, target_in, type_of, IsRead, IsSmall, verdict_over};
 
 use crate::event::Verdict;
 use crate::site::{
@@ -91,7 +90,8 @@ impl<'b> Over<'b> {
     fn integrity_target(&self) -> TargetOf<'b>
         requires { IsSmall self.now }
         ensures small { length (body_of (target_of result)) ≤ 2 ^ 32 }
-        ensures means { target_of result ≡ integrity_target self.now.op.target (option_copied self.now.target) }
+        ensures means { target_of result
+            ≡ integrity_target self.now.op.target (option_copied self.now.target) }
     {
         match self.target {
             Some(block) if self.op.target != 0 => TargetOf::Body(block.body.as_slice()),
@@ -145,7 +145,8 @@ impl<'b> Over<'b> {
 
     /// The scope is narrower than the rule asks for.
     pub fn has_narrow_scope<S: Suite>(&self, suite: &S, rule: &Rule) -> bool
-        ensures { result ≡ is_narrow rule.now.least_scope (S.scope self.now.asb.now.context (parameters_of self.now.asb.now)) }
+        ensures { result ≡ is_narrow rule.now.least_scope
+            (S.scope self.now.asb.now.context (parameters_of self.now.asb.now)) }
     {
         is_narrow(
             rule.least_scope,
@@ -158,8 +159,10 @@ impl<'b> Over<'b> {
         requires service { self.now.op.service ≡ Bib }
         requires small { IsSmall self.now }
         requires key { IsShort (option_copied key) }
-        ensures { result ≡ S.judged self.now.asb.now.context (option_copied key.entry) (parameters_of self.now.asb.now)
-            (results_of self.now.asb.now self.now.op.target) (parts (site_in self.now) self.now.op) }
+        ensures { result ≡ S.judged self.now.asb.now.context (option_copied key.entry)
+            (parameters_of self.now.asb.now)
+            (results_of self.now.asb.now self.now.op.target)
+            (parts (site_in self.now) self.now.op) }
     {
         let covered = self.covered();
         suite.judge(
@@ -178,8 +181,10 @@ impl<'b> Over<'b> {
         requires target { IsSome self.now.target }
         requires small { IsSmall self.now }
         requires key { IsShort (option_copied key) }
-        ensures { result ≡ S.checked self.now.asb.now.context (option_copied key.entry) (parameters_of self.now.asb.now)
-            (results_of self.now.asb.now self.now.op.target) (parts (site_in self.now) self.now.op) (body_in (target_in self.now)) }
+        ensures { result ≡ S.checked self.now.asb.now.context (option_copied key.entry)
+            (parameters_of self.now.asb.now)
+            (results_of self.now.asb.now self.now.op.target) (parts (site_in self.now) self.now.op)
+            (body_in (target_in self.now)) }
     {
         let covered = self.covered_sealed();
         let body = match self.target {
@@ -203,7 +208,8 @@ impl<'b> Over<'b> {
         requires read { IsRead self.now }
         requires small { IsSmall self.now }
         requires key { IsShort (option_copied key) }
-        ensures { result ≡ judge_over (meaning S.scope S.judged S.checked S.opened) policy.now (site_in self.now) self.now.op (option_copied key.entry) }
+        ensures { result ≡ judge_over (meaning S.scope S.judged S.checked S.opened) policy.now
+            (site_in self.now) self.now.op (option_copied key.entry) }
     {
         let narrow = self.has_narrow_scope(suite, self.rule(policy));
         unless_narrow(narrow, self.judge_integrity(suite, key))
@@ -218,7 +224,8 @@ impl<'b> Over<'b> {
         requires read { IsRead self.now }
         requires small { IsSmall self.now }
         requires key { IsShort (option_copied key) }
-        ensures { result ≡ judge_over (meaning S.scope S.judged S.checked S.opened) policy.now (site_in self.now) self.now.op (option_copied key.entry) }
+        ensures { result ≡ judge_over (meaning S.scope S.judged S.checked S.opened) policy.now
+            (site_in self.now) self.now.op (option_copied key.entry) }
     {
         let narrow = self.has_narrow_scope(suite, self.rule(policy));
         unless_narrow(narrow, self.judge_confidentiality(suite, key))
@@ -237,7 +244,8 @@ impl<'b> Over<'b> {
         requires read { IsRead self.now }
         requires small { IsSmall self.now }
         requires key { IsShort (option_copied key) }
-        ensures { result ≡ judge_over (meaning S.scope S.judged S.checked S.opened) policy.now (site_in self.now) self.now.op (option_copied key.entry) }
+        ensures { result ≡ judge_over (meaning S.scope S.judged S.checked S.opened) policy.now
+            (site_in self.now) self.now.op (option_copied key.entry) }
     {
         match self.op.service {
             Service::Bib => self.judge_bib(suite, policy, key),
@@ -256,7 +264,8 @@ impl<'b> Over<'b> {
         requires read { IsRead self.now }
         requires small { IsSmall self.now }
         requires key { IsShort (option_copied key) }
-        ensures { result ≡ verdict_over (meaning S.scope S.judged S.checked S.opened) policy.now self.now blocked (option_copied key.entry) }
+        ensures { result ≡ verdict_over (meaning S.scope S.judged S.checked S.opened) policy.now
+            self.now blocked (option_copied key.entry) }
     {
         if self.role(policy) == Role::None {
             return Verdict::NotOurs;

@@ -1,7 +1,5 @@
 //! Places of events.
 
-ghost use Rattle.std.specs.Prelude.{◌≡◌};
-
 use bpsec_asb::{OpId, Service};
 use std::cmp::Ordering;
 

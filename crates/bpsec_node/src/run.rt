@@ -1,6 +1,6 @@
 //! Sessions that run to their end.
 
-ghost use Rattle.std.specs.Prelude.{◌≡◌, ◌≤◌, ◌<◌, ◌^◌, ℕ, IfOk, IfErr, OnOk, OnErr, length};
+ghost use Rattle.std.specs.Prelude.{◌≡◌, ◌≤◌, ◌<◌, IfOk, IfErr, OnOk, OnErr, length};
 ghost use Rattle.std.specs.Option.{option_copied};
 ghost use Rattle.bp_bundle.specs.Spelling.{IsBundle};
 ghost use Rattle.bpsec_context.specs.Calls.{IsShort};
@@ -35,16 +35,21 @@ impl<'a, S: Suite> Session<'a, S> {
         ensures keyed { length self.now.keys ≡ length self.now.done }
         ensures few { length self.now.done ≤ 4096 }
         ensures shape { IsBundle self.now.received }
-        ensures legal { Legal (situation (meaning S.scope S.judged S.checked S.opened) self.now) self.now.done }
+        ensures legal { Legal (situation (meaning S.scope S.judged S.checked S.opened) self.now)
+            self.now.done }
     {
         let _done = &self.done;
     }
 
     /// Does the operation that the chooser picks, with the key that its rule names in the ring.
     fn step_by<C: Chooser>(&mut self, ring: &KeyRing, chooser: &mut C) -> Result<(), NoMemory>
-        requires { 1 ≤ length (ready (situation (meaning S.scope S.judged S.checked S.opened) self.old) self.old.done) }
-        ensures ok { OnOk result (Stepped C.answer (meaning S.scope S.judged S.checked S.opened) ring.now self.old self.new chooser.old) }
-        ensures next { chooser.new ≡ C.after chooser.old (length (ready (situation (meaning S.scope S.judged S.checked S.opened) self.old) self.old.done)) }
+        requires { 1 ≤ length (ready (situation (meaning S.scope S.judged S.checked S.opened)
+            self.old) self.old.done) }
+        ensures ok { OnOk result (Stepped C.answer (meaning S.scope S.judged S.checked S.opened)
+            ring.now self.old self.new chooser.old) }
+        ensures next { chooser.new ≡ C.after chooser.old
+            (length (ready (situation (meaning S.scope S.judged S.checked S.opened) self.old)
+            self.old.done)) }
         ensures err { OnErr result (self.new ≡ self.old) }
     {
         let index = chooser.pick(self.ready_len());
@@ -61,14 +66,17 @@ impl<'a, S: Suite> Session<'a, S> {
         ring: &KeyRing,
         chooser: &mut C,
     ) -> Result<Outcome, (Session<'a, S>, NoMemory)>
-        ensures ok { IfOk result (Ended C.answer C.after (meaning S.scope S.judged S.checked S.opened) ring.now self.entry chooser.old) }
-        ensures err { IfErr result (λ back. Ran C.answer C.after (meaning S.scope S.judged S.checked S.opened) ring.now self.entry back.0 chooser.old) }
+        ensures ok { IfOk result (Ended C.answer C.after
+            (meaning S.scope S.judged S.checked S.opened) ring.now self.entry chooser.old) }
+        ensures err { IfErr result (λ back.
+            Ran C.answer C.after (meaning S.scope S.judged S.checked S.opened) ring.now self.entry
+            back.0 chooser.old) }
     {
         self.counted();
         'steps: while self.ready_len() > 0 {
             match self.step_by(ring, chooser) {
                 Ok(()) => {}
-                Err(NoMemory) => return Err((self, NoMemory)),
+                Err(error) => return Err((self, error)),
             }
             self.counted();
         }

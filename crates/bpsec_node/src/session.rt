@@ -1,8 +1,7 @@
 //! Sessions.
 
-ghost use Rattle.std.specs.Prelude.{◌≡◌, ◌<◌, Some, length, slice_get, Contains};
+ghost use Rattle.std.specs.Prelude.{◌≡◌, ◌<◌, Some, length, slice_get};
 ghost use Rattle.bpsec_node.specs.Situation.{meaning};
-ghost use Rattle.bpsec_node.specs.Verdict.{rule};
 ghost use Rattle.bpsec_node.specs.Order.{ready, Legal, shown};
 ghost use Rattle.bpsec_node.specs.View.{situation};
 
@@ -59,22 +58,26 @@ impl<'a, S: Suite> Model for Session<'a, S> {
 impl<'a, S: Suite> Session<'a, S> {
     /// How many operations are ready. Takes no memory.
     pub fn ready_len(&self) -> usize
-        ensures { result ≡ length (ready (situation (meaning S.scope S.judged S.checked S.opened) self.now) self.now.done) }
+        ensures { result ≡ length (ready
+            (situation (meaning S.scope S.judged S.checked S.opened) self.now) self.now.done) }
     {
         self.ready.items().len()
     }
 
     /// The operation at an index of those that are ready, in the order of service, block, target. Takes no memory.
     pub fn ready_at(&self, index: usize) -> OpId
-        requires { index < length (ready (situation (meaning S.scope S.judged S.checked S.opened) self.now) self.now.done) }
-        ensures { slice_get (ready (situation (meaning S.scope S.judged S.checked S.opened) self.now) self.now.done) index ≡ Some result }
+        requires { index < length (ready
+            (situation (meaning S.scope S.judged S.checked S.opened) self.now) self.now.done) }
+        ensures { slice_get (ready (situation (meaning S.scope S.judged S.checked S.opened)
+            self.now) self.now.done) index ≡ Some result }
     {
         self.ready.items()[index]
     }
 
     /// The received bundle with the bodies opened so far. Takes no memory.
     pub fn now(&self) -> &Bundle
-        ensures { result.now ≡ shown (situation (meaning S.scope S.judged S.checked S.opened) self.now) self.now.done }
+        ensures { result.now ≡ shown (situation (meaning S.scope S.judged S.checked S.opened)
+            self.now) self.now.done }
     {
         &self.shown
     }
@@ -82,7 +85,8 @@ impl<'a, S: Suite> Session<'a, S> {
     /// The operations that are done, in their order: each was ready when those before it were done. Takes no memory.
     pub fn done(&self) -> &[OpId]
         ensures means { result.now ≡ self.now.done }
-        ensures legal { Legal (situation (meaning S.scope S.judged S.checked S.opened) self.now) self.now.done }
+        ensures legal { Legal (situation (meaning S.scope S.judged S.checked S.opened) self.now)
+            self.now.done }
     {
         self.done.items()
     }

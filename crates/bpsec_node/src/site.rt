@@ -1,16 +1,10 @@
 //! Blocks and targets, and what a judgement says.
 
-ghost use Rattle.std.specs.Prelude.{◌≡◌, ◌≢◌, ◌≤◌, ◌^◌, false, if◌then◌else◌, Some, None, IsSome, IsFalse, IsTrue, IfOk, length};
+ghost use Rattle.std.specs.Prelude.{◌≡◌, false, Some, None};
 ghost use Rattle.std.specs.Option.{option_copied};
 ghost use Rattle.bpsec_asb.specs.declared.operation.Service.TheVariants.{Bib, Bcb};
-ghost use Rattle.bpsec_scope.specs.View.{parts_of};
-ghost use Rattle.bpsec_scope.specs.Target.{target_of, is_sealed, body_of};
-ghost use Rattle.bpsec_context.specs.Calls.{IsShort};
-ghost use Rattle.bpsec_node.specs.Situation.{meaning};
-ghost use Rattle.bpsec_node.specs.Site.{block_at, kind_at, parameters_of, results_of, header_of, parts, integrity_target, target_header, is_narrow, unless_narrow, rule_over, role_over, judge_over, open_over, body_in};
-ghost use Rattle.bpsec_node.specs.Plain.{may_be_covered, is_right};
-ghost use Rattle.bpsec_node.specs.Verdict.{is_forbidden, verdict_of, table, has_no_role};
-ghost use Rattle.bpsec_node.specs.Over.{site_in, target_in, type_of, IsRead, IsSmall, verdict_over, opened_over};
+ghost use Rattle.bpsec_node.specs.Site.{block_at, kind_at, parameters_of, results_of, header_of, is_narrow, unless_narrow};
+ghost use Rattle.bpsec_node.specs.Verdict.{is_forbidden, verdict_of};
 
 use crate::event::Verdict;
 use bp_blocks::Block;

@@ -1,6 +1,6 @@
 //! Steps of a session.
 
-ghost use Rattle.std.specs.Prelude.{◌≡◌, ◌≤◌, ◌&&◌, ◌==◌, ◌++◌, Some, Ok, IsSome, IsTrue, IsFalse, IfSome, IfOk, OnOk, OnErr, Contains, is_some, length, option_map, option_to_list};
+ghost use Rattle.std.specs.Prelude.{◌≡◌, ◌&&◌, ◌==◌, ◌++◌, Some, Ok, IsTrue, IsFalse, IfSome, IfOk, OnOk, OnErr, Contains, is_some, option_map, option_to_list};
 ghost use Rattle.std.specs.Option.{option_copied};
 ghost use Rattle.bpsec_asb.specs.declared.operation.Service.TheVariants.{Bcb};
 ghost use Rattle.bpsec_context.specs.Calls.{IsShort};
@@ -9,7 +9,7 @@ ghost use Rattle.bpsec_node.specs.Site.{block_at, site};
 ghost use Rattle.bpsec_node.specs.Verdict.{rule, step_verdict};
 ghost use Rattle.bpsec_node.specs.Order.{ready, shown};
 ghost use Rattle.bpsec_node.specs.View.{situation, after_step};
-ghost use Rattle.bpsec_node.specs.Over.{site_in, target_in, IsRead, IsSmall};
+ghost use Rattle.bpsec_node.specs.Over.{site_in, IsRead, IsSmall};
 ghost use Rattle.bpsec_node.specs.Session.{has, find_held, is_covering};
 ghost use Rattle.bp_bundle.specs.Spelling.{IsBundle};
 ghost use Rattle.bpsec_node.specs.Lists.{without_op, without_number, new_ops, ready_among};
@@ -50,10 +50,16 @@ fn over<'b>(
     op: OpId,
 ) -> Option<Over<'b>>
     ensures site { IfSome result (λ over. site_in over
-        ≡ record { primary = primary.now; security = block_at blocks.now op.block; target = block_at blocks.now op.target }) }
+        ≡ record {
+          primary = primary.now;
+          security = block_at blocks.now op.block;
+          target = block_at blocks.now op.target;
+        }) }
     ensures op { IfSome result (λ over. over.op ≡ op) }
-    ensures read { IfSome result (λ over. option_map (λ h. h.read) (find_held held.now op.block) ≡ Some (Ok over.asb.now)) }
-    ensures exact { is_some result ≡ (is_some (block_at blocks.now op.block) && is_readable (find_held held.now op.block)) }
+    ensures read { IfSome result (λ over. option_map (λ h. h.read) (find_held held.now op.block)
+        ≡ Some (Ok over.asb.now)) }
+    ensures exact { is_some result
+        ≡ (is_some (block_at blocks.now op.block) && is_readable (find_held held.now op.block)) }
 {
     let security = match find_block(blocks, op.block) {
         Some(block) => block,
@@ -93,7 +99,7 @@ fn revealed(
     match body {
         Some(body) if kind == 11 => match read_held(alloc, number, body.as_slice()) {
             Ok(held) => Ok(Some(held)),
-            Err(NoMemory) => Err(NoMemory),
+            Err(error) => Err(error),
         },
         _ => Ok(None),
     }
@@ -128,8 +134,10 @@ fn change_by(
 ) -> Result<Change, NoMemory>
     ensures held { IfOk result (λ c. c.held ≡ held_after kind op.target body.now) }
     ensures sealed { IfOk result (λ c. c.sealed ≡ without_number op.target sealed.now) }
-    ensures stuck { IfOk result (λ c. c.stuck ≡ stuck.now ++ option_to_list (stuck_after op.target body.now)) }
-    ensures ops { IfOk result (λ c. c.ops ≡ without_op op ops.now ++ new_ops (held_after kind op.target body.now)) }
+    ensures stuck { IfOk result (λ c. c.stuck
+        ≡ stuck.now ++ option_to_list (stuck_after op.target body.now)) }
+    ensures ops { IfOk result (λ c. c.ops
+        ≡ without_op op ops.now ++ new_ops (held_after kind op.target body.now)) }
     ensures ready { IfOk result (λ c. c.ready ≡ ready_among (without_number op.target sealed.now)
         (without_op op ops.now ++ new_ops (held_after kind op.target body.now))) }
 {
@@ -163,8 +171,11 @@ fn put_opened(bundle: &mut Bundle, number: u64, body: Option<Bytes>)
 impl<'a, S: Suite> Session<'a, S> {
     /// An operation that is ready, over the blocks as they are shown.
     fn over(&self, op: OpId) -> Over<'_>
-        requires { Contains (ready (situation (meaning S.scope S.judged S.checked S.opened) self.now) self.now.done) op }
-        ensures site { site_in result ≡ site (shown (situation (meaning S.scope S.judged S.checked S.opened) self.now) self.now.done) op }
+        requires { Contains (ready (situation (meaning S.scope S.judged S.checked S.opened)
+            self.now) self.now.done) op }
+        ensures site { site_in result ≡ site
+            (shown (situation (meaning S.scope S.judged S.checked S.opened) self.now) self.now.done)
+            op }
         ensures op { result.op ≡ op }
         ensures read { IsRead result }
         ensures small { IsSmall result }
@@ -182,8 +193,10 @@ impl<'a, S: Suite> Session<'a, S> {
 
     /// The rule of an operation that is ready. Its `key` is the name of the key to hand in. Takes no memory.
     pub fn rule_at(&self, op: OpId) -> &Rule
-        requires { Contains (ready (situation (meaning S.scope S.judged S.checked S.opened) self.now) self.now.done) op }
-        ensures { result.now ≡ rule (situation (meaning S.scope S.judged S.checked S.opened) self.now) op }
+        requires { Contains (ready (situation (meaning S.scope S.judged S.checked S.opened)
+            self.now) self.now.done) op }
+        ensures { result.now ≡ rule (situation (meaning S.scope S.judged S.checked S.opened)
+            self.now) op }
     {
         self.over(op).rule(self.policy)
     }
@@ -195,12 +208,15 @@ impl<'a, S: Suite> Session<'a, S> {
         key: Option<&[u8]>,
         kept: Option<Bytes>,
     ) -> Result<Verdict, NoMemory>
-        requires ready { Contains (ready (situation (meaning S.scope S.judged S.checked S.opened) self.old) self.old.done) op }
+        requires ready { Contains (ready
+            (situation (meaning S.scope S.judged S.checked S.opened) self.old) self.old.done) op }
         requires key { IsShort (option_copied key) }
         requires kept { kept ≡ option_copied key }
-        requires other { IsFalse (is_covering (situation (meaning S.scope S.judged S.checked S.opened) self.old) self.old.done op) }
+        requires other { IsFalse (is_covering
+            (situation (meaning S.scope S.judged S.checked S.opened) self.old) self.old.done op) }
         ensures ok { OnOk result (self.new ≡ after_step self.old op (option_copied key.entry)) }
-        ensures means { IfOk result (λ v. v ≡ step_verdict (situation (meaning S.scope S.judged S.checked S.opened) self.new) op) }
+        ensures means { IfOk result (λ v. v
+            ≡ step_verdict (situation (meaning S.scope S.judged S.checked S.opened) self.new) op) }
         ensures err { OnErr result (self.new ≡ self.old) }
     {
         let blocked = has(self.stuck.items(), op.target);
@@ -225,12 +241,15 @@ impl<'a, S: Suite> Session<'a, S> {
         key: Option<&[u8]>,
         kept: Option<Bytes>,
     ) -> Result<Verdict, NoMemory>
-        requires ready { Contains (ready (situation (meaning S.scope S.judged S.checked S.opened) self.old) self.old.done) op }
+        requires ready { Contains (ready
+            (situation (meaning S.scope S.judged S.checked S.opened) self.old) self.old.done) op }
         requires key { IsShort (option_copied key) }
         requires kept { kept ≡ option_copied key }
-        requires covering { IsTrue (is_covering (situation (meaning S.scope S.judged S.checked S.opened) self.old) self.old.done op) }
+        requires covering { IsTrue (is_covering
+            (situation (meaning S.scope S.judged S.checked S.opened) self.old) self.old.done op) }
         ensures ok { OnOk result (self.new ≡ after_step self.old op (option_copied key.entry)) }
-        ensures means { IfOk result (λ v. v ≡ step_verdict (situation (meaning S.scope S.judged S.checked S.opened) self.new) op) }
+        ensures means { IfOk result (λ v. v
+            ≡ step_verdict (situation (meaning S.scope S.judged S.checked S.opened) self.new) op) }
         ensures err { OnErr result (self.new ≡ self.old) }
     {
         let over = self.over(op);
@@ -271,7 +290,8 @@ impl<'a, S: Suite> Session<'a, S> {
 
     /// Whether a ready operation covers a block.
     fn is_covering(&self, op: OpId) -> bool
-        ensures { result ≡ is_covering (situation (meaning S.scope S.judged S.checked S.opened) self.now) self.now.done op }
+        ensures { result ≡ is_covering (situation (meaning S.scope S.judged S.checked S.opened)
+            self.now) self.now.done op }
     {
         match op.service {
             Service::Bib => false,
@@ -282,10 +302,12 @@ impl<'a, S: Suite> Session<'a, S> {
     /// Does an operation that is ready, with this key; with none as with a ring that lacks the key. Answers the verdict that the
     /// key and those before it give, which is never Conflict. Want of memory leaves the session as it was.
     pub fn step(&mut self, op: OpId, key: Option<&[u8]>) -> Result<Verdict, NoMemory>
-        requires ready { Contains (ready (situation (meaning S.scope S.judged S.checked S.opened) self.old) self.old.done) op }
+        requires ready { Contains (ready
+            (situation (meaning S.scope S.judged S.checked S.opened) self.old) self.old.done) op }
         requires key { IsShort (option_copied key) }
         ensures ok { OnOk result (self.new ≡ after_step self.old op (option_copied key.entry)) }
-        ensures means { IfOk result (λ v. v ≡ step_verdict (situation (meaning S.scope S.judged S.checked S.opened) self.new) op) }
+        ensures means { IfOk result (λ v. v
+            ≡ step_verdict (situation (meaning S.scope S.judged S.checked S.opened) self.new) op) }
         ensures err { OnErr result (self.new ≡ self.old) }
     {
         let kept = copied_key(self.alloc, key)?;

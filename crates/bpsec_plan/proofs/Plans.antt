@@ -19,7 +19,8 @@ use Rattle.bpsec_plan.specs.declared.item.Cover.{Cover}
 use Rattle.bpsec_plan.specs.declared.item.Item.{Item}
 use Rattle.bpsec_plan.specs.declared.item.Item.TheVariants as items
 use Rattle.bpsec_plan.specs.Items.{are_targets, is_name_if_any, is_cover, is_integrity_variant, is_cipher_variant, is_item, is_plan}
-use Rattle.bpsec_plan.specs.PlanText.{most, is_frame_shape, check_of, frame_at, is_cover_shape, cover_at, keys_at, algorithm_at, has_bib_keys, is_bib_shape, bib_at, has_bcb_keys, is_vector_shape, is_bcb_shape, flag_or_false, bcb_at, is_split_shape, split_at, item_by, item_at, is_plan_shape, plan_at}
+use Rattle.bp_crc.specs.Item.{check_of}
+use Rattle.bpsec_plan.specs.PlanText.{most, is_frame_shape, frame_at, is_cover_shape, cover_at, keys_at, algorithm_at, has_bib_keys, is_bib_shape, bib_at, has_bcb_keys, is_vector_shape, is_bcb_shape, flag_or_false, bcb_at, is_split_shape, split_at, item_by, item_at, is_plan_shape, plan_at}
 use Rattle.bpsec_plan.proofs.Steps.{bind_ok, at_entry_ok, unless_ok, wanted_ok, ok_is, both_true, and_true, name_at, hex_within}
 use Rattle.bpsec_plan.proofs.Fields.{number_within, optional_name, targets_kept}
 

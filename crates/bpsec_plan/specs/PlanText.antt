@@ -4,7 +4,7 @@ use Rattle.std.specs.Str.{bytes_eq}
 use Rattle.cbor_profile.specs.Step.{◌>>=◌}
 use Rattle.serde_json.specs.Data.{Data}
 use Rattle.bp_crc.specs.declared.kind.CheckKind.{CheckKind}
-use Rattle.bp_crc.specs.declared.kind.CheckKind.TheVariants as checks
+use Rattle.bp_crc.specs.Item.{check_of}
 use Rattle.bp_text.specs.declared.fault.TextReason.{TextReason}
 use Rattle.bp_text.specs.declared.fault.TextReason.TheVariants.{WrongShape, UnknownWord, TooMany}
 use Rattle.bp_text.specs.declared.fault.TextFault.{TextFault}
@@ -29,9 +29,6 @@ unfoldable pub is_frame_shape : Data → Bool
 is_frame_shape d =
     has (Number most) (codes "block") d && (has (Number most) (codes "flags") d && (has (Number 2) (codes "crc") d
     && has (Distinct 64) (codes "targets") d))
-
-abbrev pub check_of : ℕ → CheckKind
-check_of n = if n == 0 then checks.None else if n == 1 then checks.Crc16 else checks.Crc32c
 
 unfoldable pub frame_at : Data → Result (ℕ × ℕ × CheckKind × List ℕ) TextReason
 frame_at d = do

@@ -7,7 +7,7 @@ ghost use Rattle.bp_text.specs.Fault.{IsFieldFault};
 ghost use Rattle.bp_text.specs.Tree.{number_at};
 ghost use Rattle.bp_text.specs.Shape.{passes};
 ghost use Rattle.bpsec_plan.specs.Items.{is_integrity_variant, is_cipher_variant};
-ghost use Rattle.bpsec_plan.specs.PlanText.{is_frame_shape, check_of, frame_at, is_cover_shape, cover_at, keys_at, algorithm_at, has_bib_keys, is_bib_shape, bib_at, has_bcb_keys, is_vector_shape, is_bcb_shape, flag_or_false, bcb_at, is_split_shape, split_at, item_at};
+ghost use Rattle.bpsec_plan.specs.PlanText.{is_frame_shape, frame_at, is_cover_shape, cover_at, keys_at, algorithm_at, has_bib_keys, is_bib_shape, bib_at, has_bcb_keys, is_vector_shape, is_bcb_shape, flag_or_false, bcb_at, is_split_shape, split_at, item_at};
 
 use crate::item::{Cover, Item, Split};
 use bp_crc::CheckKind;
@@ -32,17 +32,6 @@ fn is_frame_shape(tree: &Value) -> bool
         && has(tree, "targets", Kind::Distinct { most: 64 })
 }
 
-/// The kind of check with a number.
-fn check_of(number: u64) -> CheckKind
-    ensures { result ≡ check_of number }
-{
-    match number {
-        0 => CheckKind::None,
-        1 => CheckKind::Crc16,
-        _ => CheckKind::Crc32c,
-    }
-}
-
 /// Number, flags, check and targets.
 #[tactic(auto, unfolding(crate::specs::PlanText::frame_at))]
 fn read_frame(alloc: Global, tree: &Value) -> Result<(u64, u64, CheckKind, List<u64>), FieldFault>
@@ -52,7 +41,7 @@ fn read_frame(alloc: Global, tree: &Value) -> Result<(u64, u64, CheckKind, List<
     let flags = Field::read(alloc, tree, "flags")?;
     let crc = Field::read(alloc, tree, "crc")?;
     let targets = Field::read(alloc, tree, "targets")?;
-    Ok((block, flags, check_of(crc), targets))
+    Ok((block, flags, CheckKind::of_number(crc), targets))
 }
 
 // ---- items that add operations

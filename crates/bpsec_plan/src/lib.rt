@@ -7,6 +7,3 @@ mod plan;
 
 pub use item::{Cover, Item, Split};
 pub use plan::{ITEM_LIMIT, Plan};
-
-#[cfg(test)]
-mod tests;

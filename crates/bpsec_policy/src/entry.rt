@@ -16,7 +16,7 @@ use bp_eid::Eid;
 use bp_text::{
     Entry, Field, FieldFault, Kind, has, has_only, may_have, number_field, optional, signed_field,
 };
-use cbor_profile::{Bytes, List};
+use cbor_profile::{Bytes, List, NoMemory};
 use serde_json::Value;
 use std::alloc::Global;
 
@@ -39,7 +39,8 @@ fn acting(
     least_scope: Option<u64>,
     tree: &Value,
 ) -> Result<Rule, FieldFault>
-    ensures { Gives IsFieldFault (λ rule. rule) result (acting_at name least_scope (view tree.now)) }
+    ensures { Gives IsFieldFault (λ rule. rule) result
+        (acting_at name least_scope (view tree.now)) }
 {
     let role = Field::read(alloc, tree, "role")?;
     let failed = Field::read(alloc, tree, "failed")?;
@@ -71,10 +72,10 @@ pub(crate) fn read_default(alloc: Global, tree: &Value) -> Result<Rule, FieldFau
     if !is_default_shape(tree) {
         return Err(FieldFault::WrongShape);
     }
-    let Ok(name) = Vec::from_slice(alloc, b"default") else {
-        return Err(FieldFault::NoMemory);
-    };
-    acting(alloc, Bytes::of(name), None, tree)
+    match Vec::from_slice(alloc, b"default") {
+        Ok(name) => acting(alloc, Bytes::of(name), None, tree),
+        Err(error) => Err(NoMemory::from(error).into()),
+    }
 }
 
 /// Whether the key's value is a target, if the tree has the key.
@@ -177,7 +178,7 @@ fn read_targets(alloc: Global, tree: &Value) -> Result<Option<List<TargetKind>>,
     let kind = TargetKind::read(alloc, tree, "target")?;
     match Vec::from_slice(alloc, &[kind]) {
         Ok(kinds) => Ok(Some(List::of(kinds))),
-        Err(_) => Err(FieldFault::NoMemory),
+        Err(error) => Err(NoMemory::from(error).into()),
     }
 }
 

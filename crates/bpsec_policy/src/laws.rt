@@ -10,7 +10,8 @@ ghost use Rattle.bpsec_policy.specs.Matching.{Operation, Matches, IsFirst, NoneM
 
 /// Patterns pass their test exactly where each that is there matches.
 pub fn patterns_mean_what_they_say()
-    ensures { (p : Patterns) (op : Operation) → (matches p op.service op.source op.context op.target ≡ true) ↔ Matches p op }
+    ensures { (p : Patterns) (op : Operation)
+        → (matches p op.service op.source op.context op.target ≡ true) ↔ Matches p op }
 {}
 
 /// The rule of an operation matches and none before it does; or no rule does, and it is the default.
@@ -22,7 +23,8 @@ pub fn the_first_rule_decides()
 
 /// Each key of a ring is found under its name, and what is found under a name has it.
 pub fn keys_are_found()
-    ensures found { (keys : List NamedKey) (i : ℕ) (k : NamedKey) → IsTrue (is_ring keys) → slice_get keys i ≡ Some k
+    ensures found { (keys : List NamedKey) (i : ℕ) (k : NamedKey) → IsTrue (is_ring keys)
+        → slice_get keys i ≡ Some k
         → key_of keys k.name ≡ Some k.key }
     ensures means { (keys : List NamedKey) (name key : List ℕ) → key_of keys name ≡ Some key
         → (i : ℕ) × (slice_get keys i ≡ Some (record { name = name; key = key })) }

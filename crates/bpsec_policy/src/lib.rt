@@ -13,4 +13,7 @@ mod written;
 
 pub use policy::{Policy, REQUIREMENT_LIMIT, RULE_LIMIT};
 pub use ring::{KEY_LIMIT, KeyRing, NamedKey};
-pub use rule::{Action, Patterns, Requirement, Role, Rule, RuleAt, TargetKind};
+pub use rule::{
+    Action, Patterns, Requirement, Role, Rule, RuleAt, TargetKind, is_among, same_id, same_kind,
+    same_node, same_service,
+};

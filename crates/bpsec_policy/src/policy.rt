@@ -47,7 +47,8 @@ fn first_match<'a>(
     context: i64,
     target: Option<TargetKind>,
 ) -> Option<&'a RuleAt>
-    ensures { option_copied result ≡ find (λ r. matches r.patterns service source.now context target) rules.now }
+    ensures { option_copied result
+        ≡ find (λ r. matches r.patterns service source.now context target) rules.now }
 {
     rules
         .iter()
@@ -65,8 +66,20 @@ impl Policy {
         rules: List<RuleAt>,
         required: List<Requirement>,
     ) -> Policy
-        requires { IsTrue (is_policy (record { node = node; broken = broken; default_rule = default_rule; rules = rules; required = required })) }
-        ensures { result ≡ record { node = node; broken = broken; default_rule = default_rule; rules = rules; required = required } }
+        requires { IsTrue (is_policy (record {
+          node = node;
+          broken = broken;
+          default_rule = default_rule;
+          rules = rules;
+          required = required;
+        })) }
+        ensures { result ≡ record {
+          node = node;
+          broken = broken;
+          default_rule = default_rule;
+          rules = rules;
+          required = required;
+        } }
     {
         Policy {
             node,
@@ -103,6 +116,20 @@ impl Policy {
             Service::Bcb if same_node(&self.node, destination) => Role::Acceptor,
             _ => rule.role,
         }
+    }
+
+    /// The rules, in their order. Takes no memory.
+    pub fn rules(&self) -> &[RuleAt]
+        ensures { result.now ≡ self.now.rules }
+    {
+        self.rules.items()
+    }
+
+    /// The rule of an operation that no rule is for. Takes no memory.
+    pub fn default_rule(&self) -> &Rule
+        ensures { result.now ≡ self.now.default_rule }
+    {
+        &self.default_rule
     }
 
     /// The requirements, in their order. Takes no memory.

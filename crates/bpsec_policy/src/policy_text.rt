@@ -61,7 +61,8 @@ fn is_policy_shape(tree: &Value) -> bool
 
 /// Whether neither list is longer than its limit.
 fn are_short(tree: &Value) -> bool
-    ensures { result ≡ is_short 256 (codes "rules") (view tree.now) && is_short 64 (codes "required") (view tree.now) }
+    ensures { result ≡ is_short 256 (codes "rules") (view tree.now)
+        && is_short 64 (codes "required") (view tree.now) }
 {
     is_short(tree, "rules", RULE_LIMIT) && is_short(tree, "required", REQUIREMENT_LIMIT)
 }

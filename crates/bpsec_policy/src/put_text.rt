@@ -27,7 +27,8 @@ use std::alloc::Global;
 /// Puts in what a rule and the default share.
 fn put_acting(alloc: Global, members: &mut Map<String, Value>, rule: &Rule) -> Result<(), NoMemory>
     requires { allows rule.now.key is_name ≡ true }
-    ensures { OnOk result (members_view members.new.entries ≡ entered (members_view members.old.entries) (acting_entries rule.now)) }
+    ensures { OnOk result (members_view members.new.entries
+        ≡ entered (members_view members.old.entries) (acting_entries rule.now)) }
 {
     put_if(
         alloc,
@@ -56,8 +57,10 @@ fn put_sources(
     members: &mut Map<String, Value>,
     patterns: &Patterns,
 ) -> Result<(), NoMemory>
-    ensures value { OnOk result (members_view members.new.entries ≡ entered (members_view members.old.entries) (source_entries patterns.now)) }
-    ensures fits { OnOk result (IfSome patterns.now.source Fits × IfSome patterns.now.source_node Fits) }
+    ensures value { OnOk result (members_view members.new.entries
+        ≡ entered (members_view members.old.entries) (source_entries patterns.now)) }
+    ensures fits { OnOk result (IfSome patterns.now.source Fits
+        × IfSome patterns.now.source_node Fits) }
 {
     put_if(
         alloc,
@@ -84,7 +87,8 @@ fn targets_value(
     alloc: Global,
     targets: &Option<List<TargetKind>>,
 ) -> Result<Option<Value>, NoMemory>
-    ensures value { IfOk result (λ v. option_map view v ≡ option_map (λ kinds. array (items_of (map target_tree kinds))) targets.now) }
+    ensures value { IfOk result (λ v. option_map view v
+        ≡ option_map (λ kinds. array (items_of (map target_tree kinds))) targets.now) }
     ensures fits { OnOk result (IfSome targets.now (AllByRecursion TargetFits)) }
 {
     match targets {
@@ -99,8 +103,10 @@ fn put_targets(
     members: &mut Map<String, Value>,
     patterns: &Patterns,
 ) -> Result<(), NoMemory>
-    ensures value { OnOk result (members_view members.new.entries ≡ entered (members_view members.old.entries) (target_entries patterns.now)) }
-    ensures fits { OnOk result (IfSome patterns.now.context (λ z. FitsSigned w64 z) × IfSome patterns.now.targets (AllByRecursion TargetFits)) }
+    ensures value { OnOk result (members_view members.new.entries
+        ≡ entered (members_view members.old.entries) (target_entries patterns.now)) }
+    ensures fits { OnOk result (IfSome patterns.now.context (λ z. FitsSigned w64 z)
+        × IfSome patterns.now.targets (AllByRecursion TargetFits)) }
 {
     put_if(alloc, members, "context", signed_value(patterns.context))?;
     put_if(
@@ -195,7 +201,8 @@ impl Policy {
 
     /// Puts in the top's own fields.
     fn put_head(&self, alloc: Global, members: &mut Map<String, Value>) -> Result<(), NoMemory>
-        ensures value { OnOk result (members_view members.new.entries ≡ entered (members_view members.old.entries) (head_entries self.now)) }
+        ensures value { OnOk result (members_view members.new.entries
+            ≡ entered (members_view members.old.entries) (head_entries self.now)) }
         ensures fits { OnOk result (Fits self.now.node) }
     {
         put_if(alloc, members, "version", number_value(Some(2)))?;
@@ -216,7 +223,8 @@ impl Policy {
 
     /// Puts in the two lists.
     fn put_lists(&self, alloc: Global, members: &mut Map<String, Value>) -> Result<(), NoMemory>
-        ensures value { OnOk result (members_view members.new.entries ≡ entered (members_view members.old.entries) (list_entries self.now)) }
+        ensures value { OnOk result (members_view members.new.entries
+            ≡ entered (members_view members.old.entries) (list_entries self.now)) }
         ensures rules { OnOk result (AllByRecursion (λ r. PatternsFit r.patterns) self.now.rules) }
         ensures required { OnOk result (AllByRecursion RequirementFits self.now.required) }
     {

@@ -85,8 +85,8 @@ pub struct Requirement {
     pub missing: Action,
 }
 
-/// Whether the two services are one.
-fn same_service(one: Service, other: Service) -> bool
+/// Whether the two services are one. Takes no memory.
+pub fn same_service(one: Service, other: Service) -> bool
     ensures { result ≡ same_service one other }
 {
     match (one, other) {
@@ -95,8 +95,8 @@ fn same_service(one: Service, other: Service) -> bool
     }
 }
 
-/// Whether the two ids are equal.
-fn same_id(one: &Eid, other: &Eid) -> bool
+/// Whether the two ids are equal. Takes no memory.
+pub fn same_id(one: &Eid, other: &Eid) -> bool
     ensures { result ≡ same_id one.now other.now }
 {
     match (one, other) {
@@ -113,15 +113,15 @@ fn same_id(one: &Eid, other: &Eid) -> bool
     }
 }
 
-/// Whether the two ids are of one node.
-pub(crate) fn same_node(one: &Eid, other: &Eid) -> bool
+/// Whether the two ids are of one node. Takes no memory.
+pub fn same_node(one: &Eid, other: &Eid) -> bool
     ensures { result ≡ same_node one.now other.now }
 {
     one.same_node(other)
 }
 
-/// Whether the two kinds are one.
-fn same_kind(one: TargetKind, other: TargetKind) -> bool
+/// Whether the two kinds are one. Takes no memory.
+pub fn same_kind(one: TargetKind, other: TargetKind) -> bool
     ensures { result ≡ same_kind one other }
 {
     match (one, other) {
@@ -131,8 +131,8 @@ fn same_kind(one: TargetKind, other: TargetKind) -> bool
     }
 }
 
-/// Whether the kind is among these.
-fn is_among(kind: TargetKind, kinds: &[TargetKind]) -> bool
+/// Whether the kind is among these. Takes no memory.
+pub fn is_among(kind: TargetKind, kinds: &[TargetKind]) -> bool
     ensures { result ≡ list_any (same_kind kind) kinds.now }
 {
     kinds.iter().any(|other| same_kind(kind, *other))

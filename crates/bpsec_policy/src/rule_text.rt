@@ -48,7 +48,8 @@ impl Field for Action {
 
 /// The service at a key.
 pub(crate) fn service_field(tree: &Value, key: &str) -> Result<Service, FieldFault>
-    ensures { Gives IsFieldFault (λ service. service) result (word_at service_of key.now (view tree.now)) }
+    ensures { Gives IsFieldFault (λ service. service) result
+        (word_at service_of key.now (view tree.now)) }
 {
     match word_field(tree, key) {
         Some("bib") => Ok(Service::Bib),
@@ -61,7 +62,8 @@ pub(crate) fn service_field(tree: &Value, key: &str) -> Result<Service, FieldFau
 /// The service at a key, if the tree has the key.
 #[tactic(auto, unfolding(bp_text::specs::Field::optional))]
 pub(crate) fn optional_service(tree: &Value, key: &str) -> Result<Option<Service>, FieldFault>
-    ensures { Gives IsFieldFault (λ service. service) result (optional (word_at service_of) key.now (view tree.now)) }
+    ensures { Gives IsFieldFault (λ service. service) result
+        (optional (word_at service_of) key.now (view tree.now)) }
 {
     if tree.get(key).is_none() {
         return Ok(None);
@@ -140,9 +142,9 @@ fn targets_of(alloc: Global, values: &[Value]) -> Result<List<TargetKind>, Field
     let mut kinds = List::new(alloc);
     for value in values {
         match target_of(value) {
-            Ok(kind) => match kinds.push(kind) {
+            Ok(kind) => match kinds.append(kind) {
                 Ok(()) => {}
-                Err(_) => return Err(FieldFault::NoMemory),
+                Err(error) => return Err(error.into()),
             },
             Err(fault) => return Err(fault),
         }
@@ -157,7 +159,8 @@ pub(crate) fn optional_targets(
     tree: &Value,
     key: &str,
 ) -> Result<Option<List<TargetKind>>, FieldFault>
-    ensures { Gives IsFieldFault (λ kinds. kinds) result (optional targets_at key.now (view tree.now)) }
+    ensures { Gives IsFieldFault (λ kinds. kinds) result
+        (optional targets_at key.now (view tree.now)) }
 {
     if tree.get(key).is_none() {
         return Ok(None);

@@ -45,7 +45,8 @@ pub(crate) fn push_all<T: Written>(
     out: &mut Vec<Value>,
 ) -> Result<(), NoMemory>
     requires { AllByRecursion T.is_lawful items.now }
-    ensures values { OnOk result (map view out.new.items ≡ map view out.old.items ++ map T.tree items.now) }
+    ensures values { OnOk result (map view out.new.items
+        ≡ map view out.old.items ++ map T.tree items.now) }
     ensures fits { OnOk result (AllByRecursion T.fits items.now) }
 {
     match items {
@@ -75,7 +76,8 @@ pub(crate) fn put_if(
     key: &str,
     value: Option<Value>,
 ) -> Result<(), NoMemory>
-    ensures { OnOk result (members_view members.new.entries ≡ with key.now (option_map view value) (members_view members.old.entries)) }
+    ensures { OnOk result (members_view members.new.entries
+        ≡ with key.now (option_map view value) (members_view members.old.entries)) }
 {
     if let Some(value) = value {
         put(members, alloc, key, value)?;
@@ -200,7 +202,8 @@ pub(crate) fn optional_service_word(
     alloc: Global,
     service: Option<Service>,
 ) -> Result<Option<Value>, NoMemory>
-    ensures { IfOk result (λ v. option_map view v ≡ option_map (λ s. string (service_word s)) service) }
+    ensures { IfOk result (λ v. option_map view v
+        ≡ option_map (λ s. string (service_word s)) service) }
 {
     match service {
         Some(service) => text_value(alloc, service_word(service)),

@@ -12,6 +12,3 @@ pub use covered::Covered;
 pub use feeding::{aad, ippt};
 pub use header::Header;
 pub use target::TargetOf;
-
-#[cfg(test)]
-mod tests;

@@ -63,14 +63,13 @@ fn sealed_results(
     targets: &[u64],
 ) -> Result<List<List<Pair>>, NoMemory>
     requires { AreTags (facts case.now) tags.now }
-    ensures { IfOk result (λ results. results ≡ map (sealed_result (facts case.now) tag_in_body) targets.now) }
+    ensures { IfOk result (λ results. results
+        ≡ map (sealed_result (facts case.now) tag_in_body) targets.now) }
 {
     let mut results = List::new(alloc);
     for target in targets {
         let entry = sealed_result(alloc, case, tags, tag_in_body, *target)?;
-        if results.push(entry).is_err() {
-            return Err(NoMemory);
-        }
+        results.append(entry)?;
     }
     Ok(results)
 }
@@ -87,7 +86,8 @@ fn sealed_body(
 ) -> Result<Bytes, NoMemory>
     requires tags { AreTags (facts case.now) tags.now }
     requires usable { Ciphers case.now.ring.now cover.now vector.now }
-    ensures { IfOk result (λ body. body ≡ spelling (sealed_asb (facts case.now) cover.now vector.now tag_in_body)) }
+    ensures { IfOk result (λ body. body
+        ≡ spelling (sealed_asb (facts case.now) cover.now vector.now tag_in_body)) }
 {
     let parameters = cipher_parameters(alloc, case.ring, cover, vector)?;
     let results = sealed_results(alloc, case, tags, tag_in_body, cover.targets.items())?;
@@ -138,7 +138,7 @@ fn add_finished(
     ensures { OnOk result (new.new ≡ new.old ++ finished (facts case.now) item.now block.now ∷ []) }
 {
     let block = finished(alloc, case, tags, item, block)?;
-    new.push(block).map_err(|_block| NoMemory)
+    new.append(block)
 }
 
 /// The new blocks.
@@ -150,7 +150,8 @@ fn added_blocks(
 ) -> Result<List<Block>, NoMemory>
     requires tags { AreTags (facts case.now) tags.now }
     requires usable { All (IsUsable case.now.ring.now) case.now.items.now }
-    requires blocks { blocks.now ≡ map (sealed (facts case.now)) (map (plain_block (facts case.now)) case.now.items.now) }
+    requires blocks { blocks.now ≡ map (sealed (facts case.now))
+        (map (plain_block (facts case.now)) case.now.items.now) }
     ensures { IfOk result (λ new. new ≡ map (added (facts case.now)) case.now.items.now) }
 {
     let mut new = List::new(alloc);
@@ -185,9 +186,11 @@ pub(crate) fn joined(
     requires tags { AreTags (facts case.now) tags.now }
     requires usable { All (IsUsable case.now.ring.now) case.now.items.now }
     requires old { old ≡ map (kept (facts case.now)) case.now.blocks.now }
-    requires new { new.now ≡ map (sealed (facts case.now)) (map (plain_block (facts case.now)) case.now.items.now) }
+    requires new { new.now ≡ map (sealed (facts case.now))
+        (map (plain_block (facts case.now)) case.now.items.now) }
     ensures { IfOk result (λ all. all
-        ≡ before_last (map (kept (facts case.now)) case.now.blocks.now) (map (added (facts case.now)) case.now.items.now)) }
+        ≡ before_last (map (kept (facts case.now)) case.now.blocks.now)
+        (map (added (facts case.now)) case.now.items.now)) }
 {
     let added = added_blocks(alloc, case, tags, new)?;
     before_last(old, added)

@@ -1,10 +1,9 @@
 //! Block integrity blocks: those that are there, and what splits leave of them.
 
-ghost use Rattle.std.specs.Prelude.{◌≡◌, ◌==◌, ◌&&◌, ◌++◌, ◌∷◌, [], pos, not, map, filter, Ok, IfOk, OnOk, IsFalse};
+ghost use Rattle.std.specs.Prelude.{◌≡◌, ◌==◌, ◌&&◌, ◌++◌, [], pos, map, Ok, IfOk, OnOk};
 ghost use Rattle.std.specs.Option.{option_copied};
-ghost use Rattle.std.specs.List.{find, list_any, flat_map};
+ghost use Rattle.std.specs.List.{find};
 ghost use Rattle.bpsec_context.specs.Integrity as integrity;
-ghost use Rattle.bpsec_asb.specs.Reading.{read_body};
 ghost use Rattle.bpsec_secure.specs.Bibs.{is_visible_bib, parameters_of, has_bad_parameters, is_divisible, shown_in, shown_bibs, shown_at, moves, is_moved, left_of, remaining, planned_bib, result_bibs};
 
 use crate::items::is_in;
@@ -107,10 +106,10 @@ fn add_shown<S: Suite>(
                 asb,
                 divisible,
             };
-            shown.push(bib).map_err(|_bib| NoMemory)
+            shown.append(bib)
         }
         Err(SpellError::Fault(_)) => Ok(()),
-        Err(SpellError::NoMemory) => Err(NoMemory),
+        Err(SpellError::NoMemory) => Err(NoMemory::again()),
     }
 }
 
@@ -168,8 +167,8 @@ pub(crate) fn left_of(
 {
     let mut left = List::new(alloc);
     for target in targets {
-        if !is_moved(items, number, *target) && left.push(*target).is_err() {
-            return Err(NoMemory);
+        if !is_moved(items, number, *target) {
+            left.append(*target)?;
         }
     }
     Ok(left)
@@ -194,9 +193,7 @@ fn add_remaining(
     for bib in shown {
         let targets = left_of(alloc, items, bib.number, bib.asb.targets.items())?;
         let number = bib.number;
-        if bibs.push(ResultBib { number, targets }).is_err() {
-            return Err(NoMemory);
-        }
+        bibs.append(ResultBib { number, targets })?;
     }
     Ok(())
 }
@@ -211,8 +208,7 @@ fn add_planned(alloc: Global, item: &Item, bibs: &mut List<ResultBib>) -> Result
         Item::Bcb { .. } => return Ok(()),
     };
     let targets = copied(alloc, targets)?;
-    bibs.push(ResultBib { number, targets })
-        .map_err(|_bib| NoMemory)
+    bibs.append(ResultBib { number, targets })
 }
 
 /// The block integrity blocks of the result.

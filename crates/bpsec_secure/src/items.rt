@@ -1,7 +1,6 @@
 //! What the items of a plan say.
 
 ghost use Rattle.std.specs.Prelude.{◌≡◌, ◌==◌};
-ghost use Rattle.std.specs.List.{list_any};
 ghost use Rattle.bpsec_secure.specs.Items.{block_number, block_kind, block_flags, block_check, targets_of, is_cipher, service_of, same, is_in, is_target};
 
 use bp_crc::CheckKind;

@@ -25,26 +25,32 @@ pub fn unnamed_blocks_stay()
 /// What a block keeps that items name: its number, type and flags; its check, unless it is a target, which has none then; its
 /// body, unless a bcb item seals it or a split takes results out of it.
 pub fn named_blocks_keep_what_no_step_changes()
-    ensures header { (facts : Facts) (block : Block) → header_of (kept facts block) ≡ header_of block }
+    ensures header { (facts : Facts) (block : Block)
+        → header_of (kept facts block) ≡ header_of block }
     ensures target { (facts : Facts) (block : Block) → is_target facts.items block.number ≡ true
         → (kept facts block).crc ≡ checks.None }
     ensures check { (facts : Facts) (block : Block) → is_target facts.items block.number ≡ false
         → (kept facts block).crc ≡ block.crc }
-    ensures body { (facts : Facts) (block : Block) → list_any (seals block.number) facts.items ≡ false
-        → list_any (splits_from block.number) facts.items ≡ false → (kept facts block).body ≡ block.body }
+    ensures body { (facts : Facts) (block : Block)
+        → list_any (seals block.number) facts.items ≡ false
+        → list_any (splits_from block.number) facts.items ≡ false
+        → (kept facts block).body ≡ block.body }
 {}
 
 /// The primary block of the secured bundle is that of the bundle, without its check where an item has the target 0.
 pub fn the_primary_block_loses_its_check_as_a_target()
-    ensures target { (bundle : Contents) (items : List Item) (ring : List NamedKey) → is_target items 0 ≡ true
+    ensures target { (bundle : Contents) (items : List Item) (ring : List NamedKey)
+        → is_target items 0 ≡ true
         → (secured_bundle bundle items ring).primary ≡ record bundle.primary { crc = checks.None } }
-    ensures stays { (bundle : Contents) (items : List Item) (ring : List NamedKey) → is_target items 0 ≡ false
+    ensures stays { (bundle : Contents) (items : List Item) (ring : List NamedKey)
+        → is_target items 0 ≡ false
         → (secured_bundle bundle items ring).primary ≡ bundle.primary }
 {}
 
 /// Where nothing is sealed or split, the bodies of the bundle's blocks stay.
 pub fn bodies_stay_where_nothing_is_sealed_or_split()
-    ensures { (facts : Facts) (block : Block) → list_any is_cipher facts.items ≡ false → list_any is_split facts.items ≡ false
+    ensures { (facts : Facts) (block : Block) → list_any is_cipher facts.items ≡ false
+        → list_any is_split facts.items ≡ false
         → (kept facts block).body ≡ block.body }
 {}
 
@@ -53,7 +59,8 @@ pub fn bodies_stay_where_nothing_is_sealed_or_split()
 pub fn new_blocks_stand_before_the_payload()
     ensures blocks { (bundle : Contents) (items : List Item) (ring : List NamedKey)
         → (secured_bundle bundle items ring).blocks
-        ≡ before_last (map (kept (facts_of bundle items ring)) bundle.blocks) (map (added (facts_of bundle items ring)) items) }
+        ≡ before_last (map (kept (facts_of bundle items ring)) bundle.blocks)
+        (map (added (facts_of bundle items ring)) items) }
     ensures numbers { (bundle : Contents) (items : List Item) (ring : List NamedKey)
         → map (λ block. block.number) (secured_bundle bundle items ring).blocks
         ≡ before_last (map (λ block. block.number) bundle.blocks) (map block_number items) }
@@ -61,16 +68,21 @@ pub fn new_blocks_stand_before_the_payload()
 
 /// A plan that isn't refused makes a bundle within the limit.
 pub fn secured_bundles_are_within_the_limit()
-    ensures { (bundle : Contents) (items : List Item) (ring : List NamedKey) → refusal bundle items ring ≡ None
+    ensures { (bundle : Contents) (items : List Item) (ring : List NamedKey)
+        → refusal bundle items ring ≡ None
         → length (spelling (secured_bundle bundle items ring)) ≤ BUNDLE_LIMIT }
 {}
 
 /// The least index of an item for which a reason holds: it holds there after the items before, and at no lesser index. There
 /// is none where it holds nowhere.
 pub fn the_least_index_of_an_item()
-    ensures some { (holds : List Item → Item → Bool) (items : List Item) (at : ℕ) → first_at holds [] items ≡ Some at
-        → (at < length items) × ((d : Item) → holds (take at items) (slice_index_or items at d) ≡ true)
+    ensures some { (holds : List Item → Item → Bool) (items : List Item) (at : ℕ)
+        → first_at holds [] items ≡ Some at
+        → (at < length items) × ((d : Item)
+        → holds (take at items) (slice_index_or items at d) ≡ true)
         × ((k : ℕ) (d : Item) → k < at → holds (take k items) (slice_index_or items k d) ≡ false) }
-    ensures none { (holds : List Item → Item → Bool) (items : List Item) → first_at holds [] items ≡ None
-        → (k : ℕ) (d : Item) → k < length items → holds (take k items) (slice_index_or items k d) ≡ false }
+    ensures none { (holds : List Item → Item → Bool) (items : List Item)
+        → first_at holds [] items ≡ None
+        → (k : ℕ) (d : Item) → k < length items
+        → holds (take k items) (slice_index_or items k d) ≡ false }
 {}

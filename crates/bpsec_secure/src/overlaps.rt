@@ -137,7 +137,8 @@ fn splits_badly(
     split: &Split,
     bib: Option<&ShownBib>,
 ) -> Result<bool, NoMemory>
-    ensures { IfOk result (λ bad. bad ≡ splits_badly before.now split.now (option_copied bib.entry)) }
+    ensures { IfOk result (λ bad. bad
+        ≡ splits_badly before.now split.now (option_copied bib.entry)) }
 {
     match bib {
         Some(bib) => cannot_split(alloc, before, split, bib),

@@ -1,10 +1,10 @@
 //! The parameters of the new blocks.
 
-ghost use Rattle.std.specs.Prelude.{◌≡◌, ◌<◌, ℕ, slice_index, ◌+◌, ◌*◌, ◌++◌, ◌∷◌, [], ◌^◌, ◌≤◌, length, false, IsTrue, IfOk, OnOk};
+ghost use Rattle.std.specs.Prelude.{◌≡◌, ◌<◌, ℕ, slice_index, ◌+◌, ◌*◌, ◌++◌, ◌∷◌, [], ◌≤◌, length, IsTrue, IfOk, OnOk};
 ghost use Rattle.aes_core.specs.KeyExpansion.{IsKeySize};
 ghost use Rattle.bpsec_context.specs.Calls.{only_tag};
 ghost use Rattle.bpsec_secure.specs.Refusal.{is_wrappable, is_wrapping};
-ghost use Rattle.bpsec_secure.specs.Parameters.{number_pair, bytes_pair, wrapped_under, wrapped_by, wrapped_key, wrapped_pair, key_of_cover, integrity_parameters, cipher_parameters, outer_key, hmac_parameters, gcm_parameters};
+ghost use Rattle.bpsec_secure.specs.Parameters.{number_pair, bytes_pair, wrapped_under, wrapped_key, wrapped_pair, key_of_cover, integrity_parameters, cipher_parameters, outer_key, hmac_parameters, gcm_parameters};
 ghost use Rattle.bpsec_secure.specs.Usable.{HasKeys};
 
 use crate::keys::key_named;
@@ -21,7 +21,7 @@ fn add_number(alloc: Global, id: u64, number: u64, pairs: &mut List<Pair>) -> Re
 {
     let mut value = Bytes::new(alloc);
     put_uint(&mut value, number)?;
-    pairs.push(Pair { id, value }).map_err(|_pair| NoMemory)
+    pairs.append(Pair { id, value })
 }
 
 fn add_bytes(alloc: Global, id: u64, bytes: &[u8], pairs: &mut List<Pair>) -> Result<(), NoMemory>
@@ -29,7 +29,7 @@ fn add_bytes(alloc: Global, id: u64, bytes: &[u8], pairs: &mut List<Pair>) -> Re
 {
     let mut value = Bytes::new(alloc);
     put_bytes(&mut value, bytes)?;
-    pairs.push(Pair { id, value }).map_err(|_pair| NoMemory)
+    pairs.append(Pair { id, value })
 }
 
 /// The one result [1, tag].
@@ -80,7 +80,8 @@ fn add_wrapped_under(
 ) -> Result<(), NoMemory>
     requires wrapping { IsTrue (is_wrapping wrapping.now) }
     requires key { IsTrue (is_wrappable key.now) }
-    ensures { OnOk result (pairs.new ≡ pairs.old ++ bytes_pair id (wrapped_under wrapping.now key.now) ∷ []) }
+    ensures { OnOk result (pairs.new
+        ≡ pairs.old ++ bytes_pair id (wrapped_under wrapping.now key.now) ∷ []) }
 {
     let mut room = [0; 72];
     let out = &mut room[..key.len() + 8];
@@ -97,7 +98,8 @@ fn add_wrapped(
     pairs: &mut List<Pair>,
 ) -> Result<(), NoMemory>
     requires { HasKeys ring.now cover.now }
-    ensures { OnOk result (pairs.new ≡ pairs.old ++ wrapped_pair id (wrapped_key ring.now cover.now)) }
+    ensures { OnOk result (pairs.new
+        ≡ pairs.old ++ wrapped_pair id (wrapped_key ring.now cover.now)) }
 {
     let key = key_named(ring, cover.key.as_slice());
     match &cover.wrapped_with {

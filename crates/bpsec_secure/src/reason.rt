@@ -1,5 +1,9 @@
 //! Refusals.
 
+ghost use Rattle.std.specs.Prelude.{◌≡◌};
+
+use cbor_profile::NoMemory;
+
 /// Why a plan can't be applied to a bundle, in the order in which they are looked for.
 #[derive(Clone, Copy, Debug, PartialEq, Eq)]
 pub enum PlanReason {
@@ -58,4 +62,14 @@ pub enum PlanFault {
     Refused { reason: PlanReason, at: Option<u64> },
     /// No memory was left.
     NoMemory,
+}
+
+impl From<NoMemory> for PlanFault {
+    ghost use Rattle.bpsec_secure.specs.declared.reason.PlanFault.{PlanFault};
+
+    ghost from_gives = { λ _ fault. fault ≡ PlanFault.NoMemory };
+
+    fn from(_error: NoMemory) -> PlanFault {
+        PlanFault::NoMemory
+    }
 }

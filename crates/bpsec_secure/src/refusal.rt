@@ -26,7 +26,7 @@ fn is_unreadable(alloc: Global, case: &Case, block: &Block) -> Result<bool, NoMe
     match Asb::read(alloc, block.body.as_slice()) {
         Ok(_) => Ok(false),
         Err(SpellError::Fault(_)) => Ok(true),
-        Err(SpellError::NoMemory) => Err(NoMemory),
+        Err(SpellError::NoMemory) => Err(NoMemory::again()),
     }
 }
 

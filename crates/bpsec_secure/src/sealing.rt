@@ -81,7 +81,8 @@ fn seal<S: Suite>(
 
 /// Appends the tag where it stands in the body.
 fn append_tag(body: &mut Bytes, tag_in_body: bool, tag: &[u8]) -> Result<(), NoMemory>
-    ensures { OnOk result (body.new ≡ with_tag tag_in_body (record { ciphertext = body.old; tag = tag.now })) }
+    ensures { OnOk result (body.new
+        ≡ with_tag tag_in_body (record { ciphertext = body.old; tag = tag.now })) }
 {
     if tag_in_body {
         body.extend(tag)
@@ -197,11 +198,12 @@ fn seal_next<S: Suite>(
     requires usable { All (IsUsable case.now.ring.now) case.now.items.now }
     requires body { length block.old.body ≤ 2 ^ 32 }
     ensures block { OnOk result (block.new ≡ sealed (facts case.now) block.old) }
-    ensures tag { OnOk result (tags.new ≡ tags.old ++ tag_of_block (facts case.now) block.old ∷ []) }
+    ensures tag { OnOk result (tags.new
+        ≡ tags.old ++ tag_of_block (facts case.now) block.old ∷ []) }
 {
     let number = block.number;
     let tag = seal_block(alloc, case, suite, primary, block)?;
-    tags.push(Tag { number, tag }).map_err(|_tag| NoMemory)
+    tags.append(Tag { number, tag })
 }
 
 /// Seals the blocks that items seal, and appends an entry for each block.
@@ -218,7 +220,8 @@ pub(crate) fn seal_blocks<S: Suite>(
     requires usable { All (IsUsable case.now.ring.now) case.now.items.now }
     requires bodies { AreShort blocks.old }
     ensures blocks { OnOk result (blocks.new ≡ map (sealed (facts case.now)) blocks.old) }
-    ensures tags { OnOk result (tags.new ≡ tags.old ++ map (tag_of_block (facts case.now)) blocks.old) }
+    ensures tags { OnOk result (tags.new
+        ≡ tags.old ++ map (tag_of_block (facts case.now)) blocks.old) }
 {
     for block in blocks.items_mut() {
         seal_next(alloc, case, suite, primary, block, tags)?;
@@ -243,7 +246,8 @@ pub(crate) fn seal_all<S: Suite>(
     requires old_bodies { AreShort old.old }
     requires new_bodies { AreShort new.old }
     ensures old { OnOk result (old.new ≡ map (kept (facts case.now)) case.now.blocks.now) }
-    ensures new { OnOk result (new.new ≡ map (sealed (facts case.now)) (map (plain_block (facts case.now)) case.now.items.now)) }
+    ensures new { OnOk result (new.new
+        ≡ map (sealed (facts case.now)) (map (plain_block (facts case.now)) case.now.items.now)) }
     ensures tags { IfOk result (AreTags (facts case.now)) }
 {
     let mut tags = List::new(alloc);

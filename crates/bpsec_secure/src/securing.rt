@@ -60,7 +60,8 @@ fn parts<S: Suite>(
     requires sealed { S.sealed (pos 2) ≡ confidentiality.sealed }
     requires usable { All (IsUsable case.now.ring.now) case.now.items.now }
     requires bodies { AreShort case.now.blocks.now }
-    ensures made { IfOk result (λ parts. IfSome parts (λ p. record { primary = p.0; blocks = p.1 } ≡ secured (facts case.now))) }
+    ensures made { IfOk result (λ parts.
+        IfSome parts (λ p. record { primary = p.0; blocks = p.1 } ≡ secured (facts case.now))) }
     ensures long { IfOk result (λ parts. IfNone parts
         ((list_any is_long (map (block_left (facts case.now)) case.now.blocks.now)
         || list_any is_long (map (plain_block (facts case.now)) case.now.items.now)) ≡ true)) }
@@ -89,7 +90,8 @@ fn too_long() -> Refusal
 /// The bundle of parts that have no other fault of shape than that they are too long.
 fn bundle_of(primary: Primary, blocks: List<Block>) -> Result<Bundle, Refusal>
     requires { HasShape (record { primary = primary; blocks = blocks }) }
-    ensures { Answers result (long_refusal (record { primary = primary; blocks = blocks })) (record { primary = primary; blocks = blocks }) }
+    ensures { Answers result (long_refusal (record { primary = primary; blocks = blocks }))
+        (record { primary = primary; blocks = blocks }) }
 {
     match Bundle::of(primary, blocks) {
         Ok(bundle) => Ok(bundle),
@@ -108,7 +110,8 @@ fn applied<S: Suite>(
     requires usable { All (IsUsable case.now.ring.now) case.now.items.now }
     requires bodies { AreShort case.now.blocks.now }
     requires shape { HasShape (secured (facts case.now)) }
-    ensures { IfOk result (λ answer. Answers answer (long_refusal (secured (facts case.now))) (secured (facts case.now))) }
+    ensures { IfOk result (λ answer.
+        Answers answer (long_refusal (secured (facts case.now))) (secured (facts case.now))) }
 {
     match parts(alloc, case, suite)? {
         Some((primary, blocks)) => Ok(bundle_of(primary, blocks)),
@@ -124,11 +127,15 @@ fn decided<S: Suite>(
 ) -> Result<Result<Bundle, Refusal>, NoMemory>
     requires signed { S.signed (pos 1) ≡ integrity.signed }
     requires sealed { S.sealed (pos 2) ≡ confidentiality.sealed }
-    requires bundle { IsBundle (record { primary = case.now.primary.now; blocks = case.now.blocks.now }) }
+    requires bundle { IsBundle (record {
+      primary = case.now.primary.now;
+      blocks = case.now.blocks.now;
+    }) }
     requires plan { IsTrue (is_plan case.now.items.now) }
     requires ring { IsTrue (is_ring case.now.ring.now) }
     ensures { IfOk result (λ answer. Answers answer
-        (or_next (early_refusal (facts case.now)) (long_refusal (secured (facts case.now)))) (secured (facts case.now))) }
+        (or_next (early_refusal (facts case.now)) (long_refusal (secured (facts case.now))))
+        (secured (facts case.now))) }
 {
     bundles_have_no_fault_of_shape();
     if let Some(refusal) = early_refusal(alloc, case)? {
@@ -193,6 +200,6 @@ pub fn secure<S: Suite>(
     match answered(alloc, bundle, plan, ring, suite) {
         Ok(Ok(secured)) => Ok(secured),
         Ok(Err(Refusal { reason, at })) => Err(PlanFault::Refused { reason, at }),
-        Err(NoMemory) => Err(PlanFault::NoMemory),
+        Err(error) => Err(error.into()),
     }
 }

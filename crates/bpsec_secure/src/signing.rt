@@ -162,7 +162,8 @@ fn signed_result<S: Suite>(
     requires parameters { parameters.now ≡ integrity_parameters case.now.ring.now cover.now }
     requires usable { Signs case.now.ring.now cover.now }
     requires bodies { AreShort case.now.blocks.now }
-    ensures { IfOk result (λ results. results ≡ signed_result (facts case.now) item.now cover.now target) }
+    ensures { IfOk result (λ results. results
+        ≡ signed_result (facts case.now) item.now cover.now target) }
 {
     let block = short_block_at(case.blocks, target);
     let covered = signed_covered(primary, new_header(item), block);
@@ -194,9 +195,7 @@ fn signed_results<S: Suite>(
         let found = signed_result(
             alloc, case, suite, primary, item, cover, parameters, *target,
         )?;
-        if results.push(found).is_err() {
-            return Err(NoMemory);
-        }
+        results.append(found)?;
     }
     Ok(results)
 }
@@ -215,7 +214,8 @@ fn signed_body<S: Suite>(
     requires primary { primary.now ≡ primary_left (facts case.now) }
     requires usable { Signs case.now.ring.now cover.now }
     requires bodies { AreShort case.now.blocks.now }
-    ensures { IfOk result (λ body. body ≡ spelling (signed_asb (facts case.now) item.now cover.now)) }
+    ensures { IfOk result (λ body. body
+        ≡ spelling (signed_asb (facts case.now) item.now cover.now)) }
 {
     let parameters = integrity_parameters(alloc, case.ring, cover)?;
     let results = signed_results(alloc, case, suite, primary, item, cover, parameters.items())?;
@@ -281,12 +281,7 @@ pub(crate) fn new_blocks<S: Suite>(
 {
     let mut new = List::new(alloc);
     for item in case.items {
-        if new
-            .push(plain_block(alloc, case, suite, primary, item)?)
-            .is_err()
-        {
-            return Err(NoMemory);
-        }
+        new.append(plain_block(alloc, case, suite, primary, item)?)?;
     }
     Ok(new)
 }

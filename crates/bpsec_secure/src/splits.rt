@@ -1,6 +1,6 @@
 //! Steps 1 and 2: splits, and the blocks that lose their checks.
 
-ghost use Rattle.std.specs.Prelude.{◌≡◌, ◌==◌, ◌++◌, [], map, slice_get, position, IfOk};
+ghost use Rattle.std.specs.Prelude.{◌≡◌, ◌==◌, map, slice_get, position, IfOk};
 ghost use Rattle.std.specs.Option.{option_copied, option_and_then};
 ghost use Rattle.std.specs.List.{list_any};
 ghost use Rattle.bpsec_asb.specs.SecurityBlock.{spelling};
@@ -31,9 +31,7 @@ fn copied_pairs(alloc: Global, pairs: &[Pair]) -> Result<List<Pair>, NoMemory>
     for pair in pairs {
         let value = pair.value.copy(alloc)?;
         let copy = Pair { id: pair.id, value };
-        if copies.push(copy).is_err() {
-            return Err(NoMemory);
-        }
+        copies.append(copy)?;
     }
     Ok(copies)
 }
@@ -41,7 +39,8 @@ fn copied_pairs(alloc: Global, pairs: &[Pair]) -> Result<List<Pair>, NoMemory>
 /// The results of a target, where it has an entry.
 fn results_at(asb: &Asb, target: u64) -> Option<&List<Pair>>
     ensures { option_copied result
-        ≡ option_and_then (slice_get asb.now.results) (position (λ listed. listed == target) asb.now.targets) }
+        ≡ option_and_then (slice_get asb.now.results)
+        (position (λ listed. listed == target) asb.now.targets) }
 {
     match asb.place_of(target) {
         Some(index) => asb.results.items().get(index),
@@ -67,9 +66,7 @@ fn results_of_all(alloc: Global, asb: &Asb, targets: &[u64]) -> Result<List<List
     let mut all = List::new(alloc);
     for target in targets {
         let results = results_for(alloc, asb, *target)?;
-        if all.push(results).is_err() {
-            return Err(NoMemory);
-        }
+        all.append(results)?;
     }
     Ok(all)
 }
@@ -220,9 +217,7 @@ pub(crate) fn blocks_left(alloc: Global, case: &Case) -> Result<List<Block>, NoM
 {
     let mut left = List::new(alloc);
     for block in case.blocks {
-        if left.push(block_left(alloc, case, block)?).is_err() {
-            return Err(NoMemory);
-        }
+        left.append(block_left(alloc, case, block)?)?;
     }
     Ok(left)
 }

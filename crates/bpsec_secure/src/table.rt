@@ -87,7 +87,8 @@ fn first_of(case: &Case, reasons: &[PlanReason], next: Option<Refusal>) -> Optio
 
 /// The least index of a split that can't be done.
 pub(crate) fn first_bad_split(alloc: Global, case: &Case) -> Result<Option<usize>, NoMemory>
-    ensures { IfOk result (λ at. at ≡ first_at (bad_split (facts case.now)) [] (facts case.now).items) }
+    ensures { IfOk result (λ at. at
+        ≡ first_at (bad_split (facts case.now)) [] (facts case.now).items) }
 {
     for (i, item) in case.items.iter().enumerate() {
         if bad_split(alloc, case, &case.items[..i], item)? {

@@ -1,6 +1,6 @@
 //! The reasons that speak of targets and numbers.
 
-ghost use Rattle.std.specs.Prelude.{◌≡◌, ◌==◌, ◌&&◌, ◌||◌, not};
+ghost use Rattle.std.specs.Prelude.{◌≡◌, ◌==◌, ◌&&◌, ◌||◌};
 ghost use Rattle.std.specs.Option.{option_copied};
 ghost use Rattle.std.specs.List.{find, list_any};
 ghost use Rattle.bpsec_secure.specs.Items.{block_number, targets_of, service_of, same, is_in};
@@ -97,7 +97,8 @@ fn is_operated(ops: &[OpId], service: Service, target: u64) -> bool
 }
 
 fn is_planned(before: &[Item], service: Service, target: u64) -> bool
-    ensures { result ≡ list_any (λ earlier. same (service_of earlier) service && is_in (targets_of earlier) target) before.now }
+    ensures { result ≡ list_any (λ earlier. same (service_of earlier) service
+        && is_in (targets_of earlier) target) before.now }
 {
     before.iter().any(|earlier| same(service_of(earlier), service)
         && is_in(targets_of(earlier), target))

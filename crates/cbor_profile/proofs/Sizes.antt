@@ -23,40 +23,6 @@ head_at_least major n =
 pub head_one : (major n : ℕ) → n < 24 → length (head_spelling major n) ≡ 1
 head_one major n lt = rw (lt-ltb _ _ lt) refl
 
--- a head of a number that isn't below 24, 2^8, 2^16 has at least so many bytes
-two_at_least : (major n : ℕ) → 24 ≤ n → 2 ≤ length (head_spelling major n)
-two_at_least major n ge =
-    rw (le-ltb _ _ ge) (elim (cases_lt n (2 ^ 8)) [
-      | inl lt ↦ rw (lt-ltb _ _ lt) (omega arith)
-      | inr le ↦ rw (le-ltb _ _ le) (elim (cases_lt n (2 ^ 16)) [
-        | inl lt ↦ rw (lt-ltb _ _ lt) (omega arith)
-        | inr le ↦ rw (le-ltb _ _ le) (elim (cases_lt n (2 ^ 32)) [
-          | inl lt ↦ rw (lt-ltb _ _ lt) (omega arith)
-          | inr le ↦ rw (le-ltb _ _ le) (omega arith)
-        ])
-      ])
-    ])
-
-three_at_least : (major n : ℕ) → 2 ^ 8 ≤ n → 3 ≤ length (head_spelling major n)
-three_at_least major n ge =
-    let low : 24 ≤ n = omega arith in
-    rw (le-ltb _ _ low, le-ltb _ _ ge) (elim (cases_lt n (2 ^ 16)) [
-      | inl lt ↦ rw (lt-ltb _ _ lt) (omega arith)
-      | inr le ↦ rw (le-ltb _ _ le) (elim (cases_lt n (2 ^ 32)) [
-        | inl lt ↦ rw (lt-ltb _ _ lt) (omega arith)
-        | inr le ↦ rw (le-ltb _ _ le) (omega arith)
-      ])
-    ])
-
-five_at_least : (major n : ℕ) → 2 ^ 16 ≤ n → 5 ≤ length (head_spelling major n)
-five_at_least major n ge =
-    let low : 24 ≤ n = omega arith in
-    let high : 2 ^ 8 ≤ n = omega arith in
-    rw (le-ltb _ _ low, le-ltb _ _ high, le-ltb _ _ ge) (elim (cases_lt n (2 ^ 32)) [
-      | inl lt ↦ rw (lt-ltb _ _ lt) (omega arith)
-      | inr le ↦ rw (le-ltb _ _ le) (omega arith)
-    ])
-
 -- and of one below 2^8, 2^16, 2^32 at most so many
 two_at_most : (major n : ℕ) → n < 2 ^ 8 → length (head_spelling major n) ≤ 2
 two_at_most major n less =

@@ -41,13 +41,13 @@ pub token_again : (kinds : List ℕ) (head : Head) (rest : List ℕ) → IsHead 
 token_again kinds head rest h permitted =
     rw (token_whole kinds (spelling head ++ rest) head (length (spelling head)) permitted (read-spelling head rest h), drop_at (spelling head) rest (length (spelling head)) refl) refl
 
-after_ok : (bytes : List ℕ) (read : HeadRead) (x : Head × List ℕ) → after_read bytes read ≡ Ok x → (len : ℕ) × (read ≡ Whole x.0 len) × (drop len bytes ≡ x.1)
+pub after_ok : (bytes : List ℕ) (read : HeadRead) (x : Head × List ℕ) → after_read bytes read ≡ Ok x → (len : ℕ) × (read ≡ Whole x.0 len) × (drop len bytes ≡ x.1)
 after_ok bytes (Whole head len) x e = (len, cc, cc)
 after_ok bytes Short x e = absurd cc
 after_ok bytes NotShortest x e = absurd cc
 after_ok bytes Bad x e = absurd cc
 
-among_ok : {A : Type 0} (b : Bool) (x : Result A Reason) (y : A) → cond b x (Err WrongKind) ≡ Ok y → (b ≡ true) × (x ≡ Ok y)
+pub among_ok : {A : Type 0} (b : Bool) (x : Result A Reason) (y : A) → cond b x (Err WrongKind) ≡ Ok y → (b ≡ true) × (x ≡ Ok y)
 among_ok true x y e = (refl, e)
 among_ok false x y e = absurd cc
 

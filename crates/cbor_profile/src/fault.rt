@@ -1,7 +1,7 @@
 //! Faults of spelled bytes: the first one that reading from the left meets, and its place.
 
 ghost use Rattle.std.specs.Prelude.{◌≡◌, List, Ok, Err};
-ghost use Rattle.cbor_profile.specs.Reasons.{reason_number};
+ghost use Rattle.cbor_profile.specs.Reasons.{reason_name, reason_number};
 ghost use Rattle.cbor_profile.specs.Token.{IsToken, token_head};
 ghost use Rattle.cbor_profile.specs.declared.fault.SpellError.TheVariants.{NoMemory};
 ghost use Rattle.cbor_profile.specs.declared.fault.SpellError.TheVariants as errors;
@@ -45,6 +45,25 @@ impl Reason {
     {
         self as u64
     }
+
+    /// The name of the reason, as reports tell it.
+    pub fn name(self) -> &'static str
+        ensures { result.now ≡ reason_name self }
+    {
+        match self {
+            Reason::NotBundle => "NotBundle",
+            Reason::Truncated => "Truncated",
+            Reason::NotShortest => "NotShortest",
+            Reason::WrongKind => "WrongKind",
+            Reason::WrongCount => "WrongCount",
+            Reason::WrongValue => "WrongValue",
+            Reason::WrongText => "WrongText",
+            Reason::WrongCheck => "WrongCheck",
+            Reason::TooLong => "TooLong",
+            Reason::Trailing => "Trailing",
+            Reason::Repeated => "Repeated",
+        }
+    }
 }
 
 /// A fault of spelled bytes. Its place is the number of bytes before the token, but for `Truncated` the number of all
@@ -54,6 +73,16 @@ pub struct Fault {
     pub place: u64,
     pub reason: Reason,
 }
+
+impl fmt::Display for Fault {
+    fn fmt<W: fmt::Write>(&self, f: &mut fmt::Formatter<W>) -> fmt::Result {
+        let place = self.place;
+        let reason = self.reason.name();
+        write!(f, "{reason} at {place}")
+    }
+}
+
+impl Error for Fault {}
 
 /// Why spelled bytes weren't read.
 #[derive(Clone, Copy, Debug, PartialEq, Eq)]
@@ -67,11 +96,7 @@ pub enum SpellError {
 impl fmt::Display for SpellError {
     fn fmt<W: fmt::Write>(&self, f: &mut fmt::Formatter<W>) -> fmt::Result {
         match self {
-            SpellError::Fault(fault) => {
-                let place = fault.place;
-                let reason = fault.reason;
-                write!(f, "{reason:?} at {place}")
-            }
+            SpellError::Fault(fault) => write!(f, "{fault}"),
             SpellError::NoMemory => f.write_str("out of memory"),
         }
     }

@@ -28,7 +28,8 @@ pub trait Feed {
 
     /// Takes one more piece.
     fn feed(&mut self, piece: &[u8])
-        ensures stands { (fed : List ℕ) → stands_for self.old fed → length fed + length piece.now ≤ MOST
+        ensures stands { (fed : List ℕ) → stands_for self.old fed
+            → length fed + length piece.now ≤ MOST
             → stands_for self.new (fed ++ piece.now) }
         ensures fixed { fixed self.new ≡ fixed self.old };
 
@@ -67,7 +68,7 @@ impl Gather {
         ensures lost { IsErr result ↔ IsTrue self.lost }
     {
         if self.lost {
-            return Err(NoMemory);
+            return Err(NoMemory(()));
         }
         Ok(self.kept)
     }
@@ -83,7 +84,8 @@ impl Feed for Gather {
     const MOST: u64 = u64::MAX;
 
     fn feed(&mut self, piece: &[u8])
-        ensures stands { (fed : List ℕ) → Gathers self.old fed → length fed + length piece.now ≤ 2 ^ 64 - 1
+        ensures stands { (fed : List ℕ) → Gathers self.old fed
+            → length fed + length piece.now ≤ 2 ^ 64 - 1
             → Gathers self.new (fed ++ piece.now) }
         ensures empty { piece.now ≡ [] → self.new ≡ self.old }
     {

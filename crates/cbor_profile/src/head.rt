@@ -79,9 +79,11 @@ fn read(bytes: &[u8]) -> HeadRead
 /// Reads the head at the front. Takes no memory.
 pub fn head_at(bytes: &[u8]) -> HeadRead
     // What is read is spelled so.
-    ensures whole { IfWhole result (λ head len. (len ≤ length bytes.now) × (take len bytes.now ≡ spelling head) × IsHead head) }
+    ensures whole { IfWhole result (λ head len. (len ≤ length bytes.now)
+        × (take len bytes.now ≡ spelling head) × IsHead head) }
     // What is spelled so is read, whatever follows it.
-    ensures found { (head : Head) (rest : List ℕ) → IsHead head → bytes.now ≡ spelling head ++ rest → result ≡ Whole head (length (spelling head)) }
+    ensures found { (head : Head) (rest : List ℕ) → IsHead head → bytes.now ≡ spelling head ++ rest
+        → result ≡ Whole head (length (spelling head)) }
     // Which answer it is.
     ensures exact { result ≡ read_head bytes.now }
 {

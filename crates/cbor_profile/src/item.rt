@@ -53,7 +53,8 @@ fn head(bytes: &[u8]) -> Result<(Head, &[u8]), ItemFault>
 /// What a string of this many bytes leaves.
 fn skip(len: u64, bytes: &[u8]) -> Result<&[u8], ItemFault>
     ensures shorter { IfOk result (λ rest. length rest.now ≤ length bytes.now) }
-    ensures exact { Stands (λ x. x.now) result (if nat_lt (length bytes.now) len then Err ItemFault.Short else Ok (drop len bytes.now)) }
+    ensures exact { Stands (λ x. x.now) result
+        (if nat_lt (length bytes.now) len then Err ItemFault.Short else Ok (drop len bytes.now)) }
 {
     if (bytes.len() as u64) < len {
         return Err(ItemFault::Short);
@@ -77,7 +78,8 @@ fn item(levels: u8, bytes: &[u8]) -> Result<&[u8], ItemFault>
 #[tactic(auto, unfolding(crate::specs::Item::content_from))]
 fn content(levels: u8, head: Head, bytes: &[u8]) -> Result<&[u8], ItemFault>
     ensures shorter { IfOk result (λ rest. length rest.now ≤ length bytes.now) }
-    ensures exact { Stands (λ x. x.now) result (content_from levels (following_head head.major) head.value bytes.now) }
+    ensures exact { Stands (λ x. x.now) result
+        (content_from levels (following_head head.major) head.value bytes.now) }
 {
     match head.major {
         2 | 3 => skip(head.value, bytes),
@@ -125,9 +127,11 @@ fn read(bytes: &[u8]) -> ItemRead
 /// Reads the item at the front. Takes no memory.
 pub fn item_at(bytes: &[u8]) -> ItemRead
     // What is read is an item.
-    ensures whole { IfWholeItem result (λ len. (len ≤ length bytes.now) × IsItem most_levels (take len bytes.now)) }
+    ensures whole { IfWholeItem result
+        (λ len. (len ≤ length bytes.now) × IsItem most_levels (take len bytes.now)) }
     // An item is read, whatever follows it.
-    ensures found { (item rest : List ℕ) → IsItem most_levels item → bytes.now ≡ item ++ rest → result ≡ Whole (length item) }
+    ensures found { (item rest : List ℕ) → IsItem most_levels item → bytes.now ≡ item ++ rest
+        → result ≡ Whole (length item) }
     // Which answer it is.
     ensures exact { result ≡ read_item bytes.now }
 {

@@ -25,6 +25,3 @@ pub use put::{put_array, put_bool, put_bytes, put_int, put_text, put_uint};
 
 /// The most bytes that the spelling of a bundle has here: 16 MiB.
 pub const BUNDLE_LIMIT: u64 = 16_777_216;
-
-#[cfg(test)]
-mod tests;

@@ -5,6 +5,7 @@ ghost use Rattle.std.specs.Borrow.{Lends, Array, sem};
 ghost use Rattle.cbor_profile.specs.Overwritten.{overwritten};
 ghost use Rattle.cbor_profile.specs.contracts.list.List.{the_row};
 
+use crate::memory::NoMemory;
 use std::alloc::Global;
 use std::marker::Model;
 
@@ -71,6 +72,17 @@ impl<T> List<T> {
             Ok(()) => Ok(()),
             Err(failed) => Err(failed.value),
         }
+    }
+
+    /// Appends an item, or lets it go where memory is wanting.
+    pub fn append(&mut self, item: T) -> Result<(), NoMemory>
+    where
+        T: Drop,
+        ensures ok { OnOk result (self.new ≡ self.old ++ item ∷ []) }
+        ensures err { OnErr result (self.new ≡ self.old) }
+    {
+        self.items.push(item)?;
+        Ok(())
     }
 
     /// Puts an item before the one at an index, or at the end. An `Err`, for want of memory alone, hands the item back.

@@ -11,7 +11,8 @@ use crate::memory::NoMemory;
 
 fn put_head(out: &mut Bytes, major: u8, value: u64) -> Result<(), NoMemory>
     requires { IsHead (record { major = major; value = value }) }
-    ensures ok { OnOk result (out.new ≡ out.old ++ spelling (record { major = major; value = value })) }
+    ensures ok { OnOk result (out.new
+        ≡ out.old ++ spelling (record { major = major; value = value })) }
     ensures err { OnErr result (out.new ≡ out.old) }
 {
     let bytes = head_bytes(Head { major, value });
@@ -21,7 +22,8 @@ fn put_head(out: &mut Bytes, major: u8, value: u64) -> Result<(), NoMemory>
 /// A string of this major type, with its content.
 fn put_string(out: &mut Bytes, major: u8, content: &[u8]) -> Result<(), NoMemory>
     requires { major < 6 }
-    ensures ok { OnOk result (out.new ≡ out.old ++ (spelling (record { major = major; value = length content.now }) ++ content.now)) }
+    ensures ok { OnOk result (out.new ≡ out.old
+        ++ (spelling (record { major = major; value = length content.now }) ++ content.now)) }
     ensures err { OnErr result (out.new ≡ out.old) }
 {
     let before = out.len();

@@ -3,14 +3,37 @@ use Rattle.std.proofs.Common.{◌≡◌, ℕ, zero, suc, ◌+◌, ◌^◌, ◌<�
 use Rattle.std.specs.List.{flat_map}
 use Rattle.cbor_profile.specs.Put.{array_head}
 use Rattle.bp_eid.specs.declared.stop.Stop.{Stop}
-use Rattle.bp_bundle.proofs.Arguments.{IsBytes}
-use Rattle.bp_bundle.proofs.Reached.{Starting}
-use Rattle.bp_bundle.proofs.SealedHeads.{SealLaws}
+use Rattle.bp_bundle.proofs.HeadsAsSpelled.{IsBytes}
+use Rattle.correct_prefix.proofs.StopsBehindPrefix.{Starting}
+use Rattle.correct_prefix.proofs.FaultyHead.{SealLaws}
 use Rattle.bpsec_asb.specs.Reading.{count_at, each_at, array_at}
-use Rattle.bpsec_asb.proofs.Arrays.{ReadsItems, count_means}
-use Rattle.bpsec_asb.proofs.ArraysReached.{Items, IsArray, IsOne, Filled}
+use Rattle.bpsec_asb.specs.SecurityBlock.{array}
+use Rattle.bpsec_asb.proofs.Arrays.{AllAfter, ReadsItems, count_means}
 use Rattle.correct_prefix.proofs.Stopped.{Stopped, wider, same_kind, steps, first_stops, next_stops}
 use Rattle.correct_prefix.proofs.Heads.{count_stops, count_again}
+
+-- so many items, one after the other
+abbrev Items : {A : Type 0} → (A → List ℕ) → (List A → A → Type 0) → ℕ → List A → List ℕ → Type 0
+Items {A} item Fits count before text =
+    (xs : List A) × (length xs ≡ count) × AllAfter Fits before xs × (text ≡ flat_map item xs)
+
+-- an array of so many
+abbrev pub IsArray : {A : Type 0} → (A → List ℕ) → (List A → A → Type 0) → ℕ → ℕ → List ℕ → Type 0
+IsArray {A} item Fits least most text =
+    (xs : List A) × (least ≤ length xs) × (length xs ≤ most) × AllAfter Fits [] xs × (text ≡ array item xs)
+
+-- so many more items that fit
+abbrev pub Filled : {A : Type 0} → (List A → A → Type 0) → ℕ → List A → Type 0
+Filled {A} Fits count before = (xs : List A) × (length xs ≡ count) × AllAfter Fits before xs
+
+-- where what stands before doesn't matter
+pub fill_alone : {A : Type 0} (Fits : List A → A → Type 0) (x : A) → ((before : List A) → Fits before x) → (count : ℕ) (before : List A) → Filled Fits count before
+fill_alone Fits x fits zero before = ([], refl, tt)
+fill_alone Fits x fits (suc count) before = let others = fill_alone Fits x fits count (before ++ x ∷ []) in (x ∷ others.0, ap suc others.1, (fits before, others.2))
+
+-- one item
+abbrev pub IsOne : {A : Type 0} → (A → List ℕ) → (List A → A → Type 0) → List A → List ℕ → Type 0
+IsOne {A} item Fits before text = (x : A) × Fits before x × (text ≡ item x)
 
 pub record StopsItems {A : Type 0} (item : A → List ℕ) (Fits : List A → A → Type 0) (item_at : List A → List ℕ → Result (A × List ℕ) Stop) (bound : ℕ) : Type 0 where
   pub reads : ReadsItems item Fits item_at

@@ -1,5 +1,5 @@
 -- Where reading a security block stops.
-use Rattle.std.proofs.Common.{◌≡◌, ◌≢◌, ℕ, ℤ, pos, ◌^◌, ◌<◌, ◌≤◌, inl, Bool, true, false, List, [], ◌∷◌, ◌++◌, length, Option, Some, None, Result, Ok, Err, refl, sym, ◌∙◌, ap, subst, append-nil, arith}
+use Rattle.std.proofs.Common.{◌≡◌, ◌≢◌, ℕ, ℤ, pos, ◌^◌, ◌<◌, ◌≤◌, inl, Bool, true, false, List, [], ◌∷◌, ◌++◌, length, Option, Some, None, Result, Ok, Err, refl, sym, ◌∙◌, ap, subst, append-nil, arith, append_assoc}
 use Rattle.std.specs.Prelude.{All, AllPairs, FitsSigned, is_some}
 use Rattle.std.specs.Int.{w64}
 use Rattle.std.specs.Option.{ForSome}
@@ -13,35 +13,31 @@ use Rattle.bp_eid.specs.declared.eid.Eid.{Eid}
 use Rattle.bp_eid.specs.declared.eid.Eid.TheVariants.{Null}
 use Rattle.bp_eid.specs.declared.stop.Stop.{Stop}
 use Rattle.bp_eid.specs.EndpointId as ids
-use Rattle.bp_eid.specs.Prefix.{Begins, IsId, before_stop}
 use Rattle.bp_eid.specs.Reading.{number_at, id_at}
 use Rattle.bp_eid.proofs.Tokens.{number_again, number_means}
 use Rattle.bp_eid.proofs.Ids.{id_means, id_again}
-use Rattle.bp_bundle.proofs.Arguments.{IsBytes}
-use Rattle.bp_bundle.proofs.Reached.{Starting}
-use Rattle.bp_bundle.proofs.IdsReached.{id_cut}
-use Rattle.bp_bundle.proofs.SealedHeads.{SealLaws}
-use Rattle.bp_bundle.proofs.SealedIds.{id_sealed_list, either}
+use Rattle.bp_bundle.proofs.HeadsAsSpelled.{IsBytes}
+use Rattle.correct_prefix.proofs.StopsBehindPrefix.{Starting}
+use Rattle.correct_prefix.proofs.IdStopsBehindPrefix.{id_cut}
+use Rattle.correct_prefix.proofs.FaultyHead.{SealLaws}
+use Rattle.correct_prefix.proofs.FaultyId.{id_sealed_list, either}
 use Rattle.bpsec_asb.specs.declared.asb.Pair.{Pair}
 use Rattle.bpsec_asb.specs.declared.asb.Asb.{Asb}
-use Rattle.bpsec_asb.specs.Prefix.{IsSpelling}
 use Rattle.bpsec_asb.specs.SecurityBlock.{array, pairs, parameters_item, has_parameters, spelling, ArePairs}
 use Rattle.bpsec_asb.specs.Reading.{array_at, target_at, context_at, pairs_at, parameters_at, results_at, asb_at, ends, body_at}
 use Rattle.bpsec_asb.proofs.Arrays as arrays
 use Rattle.bpsec_asb.proofs.Arrays.{AllAfter, array_means, array_again}
 use Rattle.bpsec_asb.proofs.Fields.{FitsTarget, reads_targets, context_means, context_read, parameters_means, parameters_again}
 use Rattle.bpsec_asb.proofs.Distinct.{distinct, small}
-use Rattle.bpsec_asb.proofs.Blocks.{built, after_parameters, after_source, after_flags, after_context, after_targets, asb_again, asb_means, rest_is_bytes}
-use Rattle.bpsec_asb.proofs.ArraysReached.{IsArray}
-use Rattle.bpsec_asb.proofs.FieldsReached.{ArePairsAt, no_pairs, AreResults, no_results}
-use Rattle.bpsec_asb.proofs.Stays.{begins_none}
-use Rattle.correct_prefix.specs.Prefix.{IsCorrect, IsFaulty, from_stop}
+use Rattle.bpsec_asb.proofs.Blocks.{built, after_parameters, after_source, after_flags, after_context, after_targets, asb_again, asb_means, body_again, rest_is_bytes}
+use Rattle.correct_prefix.specs.Prefix.{Begins, before_stop, IsCorrect, IsFaulty, from_stop}
+use Rattle.correct_prefix.specs.Spelled.{IsId, IsSpelling}
 use Rattle.correct_prefix.specs.Values.{IsTokenOrValue, IsUnfinishedOrValue}
 use Rattle.correct_prefix.proofs.Ids.{stop_parts}
 use Rattle.correct_prefix.proofs.Stopped.{Sealed, Stopped, Goes, wider, same_kind, steps, into, first_stops, next_stops}
 use Rattle.correct_prefix.proofs.Heads.{number_stops}
-use Rattle.correct_prefix.proofs.Arrays.{array_stops}
-use Rattle.correct_prefix.proofs.Fields.{stops_targets, IsContext, context_stops, pairs_stop, results_stop}
+use Rattle.correct_prefix.proofs.Arrays.{IsArray, array_stops}
+use Rattle.correct_prefix.proofs.Fields.{stops_targets, IsContext, context_stops, ArePairsAt, no_pairs, pairs_stop, AreResults, no_results, results_stop}
 
 -- ---- security blocks by their fields
 
@@ -284,9 +280,14 @@ blocks_cut laws body stop bs e early =
 
 -- with the token no spelling begins
 none_begins : (front rest : List ℕ) (stop : Stop) (s : Sealed IsSpelling body_at front rest stop) → stop.reason ≢ reasons.Truncated → Begins IsSpelling (front ++ s.token) → ⊥
-none_begins front rest stop s other begins =
-    let alone = ap body_at (ap (λ (l : List ℕ). front ++ l) (sym (append-nil s.token))) ∙ s.again [] in
-    begins_none (front ++ s.token) (record { reason = stop.reason; left = length (s.token ++ []) }) alone other begins
+none_begins front rest stop s other (whole, (asb, fits, spelled), more, is) =
+    let read : body_at whole ≡ Ok asb = body_again whole asb (fits, spelled) in
+    let clash = ap body_at (is ∙ append_assoc front s.token more) ∙ s.again more in
+    not_both (body_at whole) asb _ read clash
+  where
+    not_both : (r : Result Asb Stop) (asb : Asb) (s : Stop) → r ≡ Ok asb → r ≡ Err s → ⊥
+    not_both (Ok x) asb s a b = cc
+    not_both (Err x) asb s a b = cc
 
 pub blocks_faulty : (laws : SealLaws) (body : List ℕ) (stop : Stop) → IsBytes body → body_at body ≡ Err stop → stop.reason ≢ reasons.Truncated
     → IsFaulty IsSpelling (IsTokenOrValue IsSpelling) (before_stop body stop) (from_stop body stop)

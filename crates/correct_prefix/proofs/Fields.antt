@@ -1,6 +1,7 @@
 -- Where reading a field of a security block stops.
-use Rattle.std.proofs.Common.{◌≡◌, ℕ, ℤ, pos, negsuc, ◌^◌, ◌<◌, Bool, true, false, cond, ltb, eqb, ◌||◌, List, [], ◌∷◌, ◌++◌, length, Result, Ok, Err, refl, ap, subst, append-nil, arith}
-use Rattle.std.specs.Prelude.{FitsSigned}
+use Rattle.std.proofs.Common.{◌≡◌, ℕ, zero, suc, ◌+◌, ◌≤◌, length-append, ℤ, pos, negsuc, ◌^◌, ◌<◌, Bool, true, false, cond, ltb, eqb, ◌||◌, List, [], ◌∷◌, ◌++◌, length, Result, Ok, Err, refl, ap, subst, append-nil, arith}
+use Rattle.std.specs.Prelude.{All, FitsSigned}
+use Rattle.std.proofs.lemmas.List.Elements.{All-nil}
 use Rattle.std.specs.Int.{w64}
 use Rattle.std.specs.List.{list_any}
 use Rattle.std.proofs.lemmas.Int.{ints}
@@ -14,25 +15,30 @@ use Rattle.cbor_profile.specs.Step.{◌>>=◌}
 use Rattle.bp_eid.specs.declared.stop.Stop.{Stop}
 use Rattle.bp_eid.specs.Reading.{stops, head_at, pair_at, number_at}
 use Rattle.bp_eid.proofs.Tokens.{pair_again, pair_means, number_again, number_means}
-use Rattle.bp_bundle.proofs.Arguments.{IsBytes}
-use Rattle.bp_bundle.proofs.Reached.{Starting, started}
-use Rattle.bp_bundle.proofs.HeadsReached.{Starts}
-use Rattle.bp_bundle.proofs.SealedHeads.{SealLaws}
-use Rattle.bp_bundle.proofs.SealedIds.{either}
+use Rattle.bp_bundle.proofs.HeadsAsSpelled.{IsBytes}
+use Rattle.correct_prefix.proofs.StopsBehindPrefix.{Starting, started}
+use Rattle.correct_prefix.proofs.ListStopsBehindPrefix.{Starts}
+use Rattle.correct_prefix.proofs.FaultyHead.{SealLaws}
+use Rattle.correct_prefix.proofs.FaultyId.{either}
 use Rattle.bpsec_asb.specs.declared.asb.Pair.{Pair}
-use Rattle.bpsec_asb.specs.SecurityBlock.{pair, pairs, IsPair, ArePairs}
+use Rattle.bpsec_asb.specs.SecurityBlock.{array, pair, pairs, IsPair, ArePairs}
 use Rattle.bpsec_asb.specs.Reading.{target_at, context_at, value_at, pair_of, pairs_at, results_at}
 use Rattle.bpsec_asb.proofs.Arrays as arrays
 use Rattle.bpsec_asb.proofs.Fields.{FitsTarget, FitsAlone, reads_targets, reads_pairs, reads_results, all-after}
-use Rattle.bpsec_asb.proofs.Fresh.{fresh}
-use Rattle.bpsec_asb.proofs.ArraysReached.{IsOne, IsArray, fill_alone}
-use Rattle.bpsec_asb.proofs.FieldsReached.{reaches_targets, ArePairsAt, no_pairs, AreResults}
+use Rattle.correct_prefix.proofs.FreshTarget.{fresh}
 use Rattle.correct_prefix.proofs.Stopped.{Stopped, wider, same_kind, steps, into, first_stops, next_stops, whole_refused}
 use Rattle.correct_prefix.proofs.Heads.{headed_stops, head_refused, number_stops, whole_number, pair_stops}
 use Rattle.correct_prefix.proofs.Values.{zero_item, is_zero_item, value_stops}
-use Rattle.correct_prefix.proofs.Arrays.{StopsItems, array_stops}
+use Rattle.correct_prefix.proofs.Arrays.{IsOne, IsArray, Filled, fill_alone, StopsItems, array_stops}
 
 -- ---- targets
+
+fill_targets : (count : ℕ) (before : List ℕ) → length before + count ≤ 64 → Filled FitsTarget count before
+fill_targets zero before le = ([], refl, tt)
+fill_targets (suc count) before le =
+    let new = fresh before in
+    let others = fill_targets count (before ++ new.number ∷ []) (omega (arith, length-append before (new.number ∷ []))) in
+    (new.number ∷ others.0, ap suc others.1, ((omega (arith, new.high), new.absent), others.2))
 
 starts_target : (before : List ℕ) → length before < 64 → Starting (IsOne uint FitsTarget before) 0
 unfolding uint
@@ -53,7 +59,7 @@ one_target laws before bytes stop small e few =
     (λ b k. absurd cc))
 
 pub stops_targets : (laws : SealLaws) → StopsItems uint FitsTarget target_at 64
-stops_targets laws = record { reads = reads_targets; one = one_target laws; fill = reaches_targets.fill }
+stops_targets laws = record { reads = reads_targets; one = one_target laws; fill = fill_targets }
 
 -- ---- the id of the security context
 
@@ -151,6 +157,13 @@ stops_pairs laws = record {
   fill = λ count before le. fill_alone (FitsAlone IsPair) zero_pair (λ before. is_zero_pair) count before;
 }
 
+-- some parameters, or the results of one target
+abbrev pub ArePairsAt : List ℕ → Type 0
+ArePairsAt text = (ps : List Pair) × ArePairs ps × (text ≡ pairs ps)
+
+pub no_pairs : ArePairs []
+no_pairs = (omega arith, All-nil IsPair)
+
 pub pairs_stop : (laws : SealLaws) (bytes : List ℕ) (stop : Stop) → IsBytes bytes → pairs_at bytes ≡ Err stop → Stopped ArePairsAt pairs_at bytes stop
 pairs_stop laws bytes stop small e =
     let Kind = IsArray pair (FitsAlone IsPair) 0 16 in
@@ -158,6 +171,13 @@ pairs_stop laws bytes stop small e =
     (array_stops laws pair (FitsAlone IsPair) (λ before. pair_of) 16 (stops_pairs laws) 0 16 bytes stop (omega arith) (omega arith) (omega arith) small e)
 
 -- ---- results
+
+-- results for so many targets
+abbrev pub AreResults : ℕ → List ℕ → Type 0
+AreResults targets text = (results : List (List Pair)) × (length results ≡ targets) × All ArePairs results × (text ≡ array pairs results)
+
+pub no_results : (targets : ℕ) → (results : List (List Pair)) × (length results ≡ targets) × All ArePairs results
+no_results targets = let f = fill_alone (FitsAlone ArePairs) [] (λ before. no_pairs) targets [] in (f.0, f.1, all-after ArePairs [] f.0 f.2)
 
 stops_results : (laws : SealLaws) (bound : ℕ) → StopsItems pairs (FitsAlone ArePairs) (λ before. pairs_at) bound
 stops_results laws bound = record {

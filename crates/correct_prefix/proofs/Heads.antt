@@ -11,12 +11,12 @@ use Rattle.cbor_profile.specs.declared.fault.Reason.TheVariants as reasons
 use Rattle.bp_eid.specs.declared.stop.Stop.{Stop}
 use Rattle.bp_eid.specs.Reading.{stops, at_token, head_at, pair_at, number_at}
 use Rattle.bp_eid.proofs.Tokens.{head_again}
-use Rattle.bp_bundle.specs.Prefix.{IsWholeHead}
-use Rattle.bp_bundle.proofs.Arguments.{IsBytes}
-use Rattle.bp_bundle.proofs.Reached.{Some_of, Starting, started, head_unfinished}
-use Rattle.bp_bundle.proofs.HeadsReached.{stopped, token_ok, Starts, starts_one, lacks_one_of}
-use Rattle.bp_bundle.proofs.SealedHeads.{SealLaws, refused_head, whole_head}
-use Rattle.bp_bundle.proofs.SealedIds.{Read, read_so, either}
+use Rattle.correct_prefix.specs.Prefix.{IsWholeHead}
+use Rattle.bp_bundle.proofs.HeadsAsSpelled.{IsBytes}
+use Rattle.correct_prefix.proofs.StopsBehindPrefix.{Some_of, Starting, started, head_unfinished}
+use Rattle.correct_prefix.proofs.ListStopsBehindPrefix.{stopped, token_ok, Starts, starts_one, lacks_one_of}
+use Rattle.correct_prefix.proofs.FaultyHead.{SealLaws, refused_head, whole_head}
+use Rattle.correct_prefix.proofs.FaultyId.{Read, read_so, either}
 use Rattle.bpsec_asb.specs.Reading.{count_at}
 use Rattle.bpsec_asb.proofs.Arrays as arrays
 use Rattle.correct_prefix.proofs.Stopped.{Stopped, same_kind, steps, first_stops, whole_refused}

@@ -5,15 +5,14 @@ use Rattle.cbor_profile.specs.declared.fault.Reason.TheVariants as reasons
 use Rattle.bp_eid.specs.declared.eid.Eid.{Eid}
 use Rattle.bp_eid.specs.declared.stop.Stop.{Stop}
 use Rattle.bp_eid.specs.EndpointId.{spelling}
-use Rattle.bp_eid.specs.Prefix.{Begins, IsId, before_stop}
 use Rattle.bp_eid.specs.Reading.{id_at}
-use Rattle.bp_bundle.specs.Prefix.{IsToken, IsUnfinished}
-use Rattle.bp_bundle.proofs.Arguments.{IsBytes, TokenLaws}
-use Rattle.bp_bundle.proofs.HeadsReached.{Cut}
-use Rattle.bp_bundle.proofs.IdsReached.{id_cut}
-use Rattle.bp_bundle.proofs.SealedHeads.{SealLaws}
-use Rattle.bp_bundle.proofs.SealedIds.{SealedList, id_sealed_list}
-use Rattle.correct_prefix.specs.Prefix.{IsCorrect, IsFaulty, from_stop}
+use Rattle.bp_bundle.proofs.HeadsAsSpelled.{IsBytes, TokenLaws}
+use Rattle.correct_prefix.proofs.ListStopsBehindPrefix.{Cut}
+use Rattle.correct_prefix.proofs.IdStopsBehindPrefix.{id_cut}
+use Rattle.correct_prefix.proofs.FaultyHead.{SealLaws}
+use Rattle.correct_prefix.proofs.FaultyId.{SealedList, id_sealed_list}
+use Rattle.correct_prefix.specs.Prefix.{Begins, before_stop, IsToken, IsUnfinished, IsCorrect, IsFaulty, from_stop}
+use Rattle.correct_prefix.specs.Spelled.{IsId}
 
 -- the bytes before and from the place at which reading stops
 pub stop_parts : (bytes front rest : List ℕ) (stop : Stop) → bytes ≡ front ++ rest → length rest ≡ stop.left → (front ≡ before_stop bytes stop) × (rest ≡ from_stop bytes stop)

@@ -6,13 +6,11 @@ use Rattle.cbor_profile.specs.Step.{◌>>=◌}
 use Rattle.cbor_profile.specs.declared.fault.Reason.{Reason}
 use Rattle.cbor_profile.specs.declared.fault.Reason.TheVariants as reasons
 use Rattle.bp_eid.specs.declared.stop.Stop.{Stop}
-use Rattle.bp_eid.specs.Prefix.{Begins}
 use Rattle.bp_eid.specs.Reading.{stops}
-use Rattle.bp_bundle.specs.Prefix.{IsWholeHead}
-use Rattle.bp_bundle.proofs.Reached.{Some_of}
-use Rattle.bp_bundle.proofs.HeadsReached.{stopped}
-use Rattle.bp_bundle.proofs.Sealed.{token_behind}
-use Rattle.correct_prefix.specs.Prefix.{IsCorrect}
+use Rattle.correct_prefix.proofs.StopsBehindPrefix.{Some_of}
+use Rattle.correct_prefix.proofs.ListStopsBehindPrefix.{stopped}
+use Rattle.correct_prefix.proofs.FaultyToken.{token_behind}
+use Rattle.correct_prefix.specs.Prefix.{Begins, IsWholeHead, IsCorrect}
 use Rattle.correct_prefix.specs.Values.{TakesValue, IsTokenOrValue, IsUnfinishedOrValue}
 
 -- the token that is refused, whatever follows it

@@ -11,7 +11,7 @@ use Rattle.cbor_profile.specs.declared.fault.Reason.TheVariants as reasons
 use Rattle.cbor_profile.proofs.ItemFaults.{item_answer_stands}
 use Rattle.bp_eid.specs.declared.stop.Stop.{Stop}
 use Rattle.bp_eid.specs.Reading.{stops}
-use Rattle.bp_bundle.proofs.HeadsReached.{stopped}
+use Rattle.correct_prefix.proofs.ListStopsBehindPrefix.{stopped}
 use Rattle.bpsec_asb.specs.Reading.{after_item, value_at}
 use Rattle.correct_prefix.specs.Values.{TakesValue, IsRefused}
 use Rattle.correct_prefix.proofs.Stopped.{Stopped}

@@ -1,2 +1,4 @@
 pub mod Prefix
+pub mod Spelled
+pub mod Bundles
 pub mod Values

@@ -4,8 +4,7 @@ use Rattle.std.specs.Prelude.{◌≡◌, ◌⊎◌, ℕ, ◌<◌, List, ◌++◌
 use Rattle.cbor_profile.specs.Item.{IsItem, most_levels, read_item}
 use Rattle.cbor_profile.specs.declared.item.ItemRead.{ItemRead}
 use Rattle.cbor_profile.specs.declared.item.ItemRead.TheVariants as items
-use Rattle.bp_eid.specs.Prefix.{Begins}
-use Rattle.bp_bundle.specs.Prefix.{IsToken, IsUnfinished}
+use Rattle.correct_prefix.specs.Prefix.{Begins, IsToken, IsUnfinished}
 
 -- A value stands behind these bytes: with each item they begin a byte list of the kind.
 abbrev pub TakesValue : (List ℕ → Type 0) → List ℕ → Type 0

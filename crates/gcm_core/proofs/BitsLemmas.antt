@@ -101,10 +101,6 @@ unfolding bits
 partial_product_more i left right =
     remainder_product low_terms (eqb (left / 2 ^ i % 2) 1) (bits i left) (bits 128 right) (length-bits 128 right ∙ sym length-low_terms)
 
-pub partial_product_none : (left right : ℕ) → bits 128 0 ≡ partial_product 0 left right
-unfolding bits remainder
-partial_product_none left right = bits_zero 128 ∙ ap (λ (n : ℕ). replicate n false) (sym length-low_terms)
-
 module _ (i left right sum twice : ℕ) (held : bits 128 sum ≡ partial_product i left right)
     (doubled : bits 128 twice ≡ reduced low_terms (false ∷ bits 128 sum)) where
   pub partial_product_with : bit_and (left / 2 ^ i) 1 ≡ 1 → bits 128 (bit_xor twice right) ≡ partial_product (i + 1) left right
@@ -118,9 +114,3 @@ module _ (i left right sum twice : ℕ) (held : bits 128 sum ≡ partial_product
       let bit : left / 2 ^ i % 2 ≡ 0 = omega (arith, and_mask (left / 2 ^ i) 1) in
       sym (rw (add-one, partial_product_more i left right, bit, scaled_false (bits 128 right), length-bits 128 right, ← held, ← doubled)
       (zeros_sum (bits 128 twice) 128 (length-bits 128 twice)))
-
--- after all its coefficients the product is whole
-pub partial_product_all : (i left right sum : ℕ) → i ≡ 128 → bits 128 sum ≡ partial_product i left right
-    → bits 128 sum ≡ block_product (bits 128 left) (bits 128 right)
-unfolding block_product
-partial_product_all i left right sum e h = rw e at h

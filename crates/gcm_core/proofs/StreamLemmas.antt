@@ -30,15 +30,6 @@ stream_is registers bytes j e h =
     ext_get_or 0 (stream_in registers j) bytes (length-stream_in registers j ∙ sym e)
     (λ b g. let within : b < 16 = omega (arith, length-stream_in registers j) in get_or-stream_in registers j b within ∙ h b within)
 
--- the streams of rows with rows and columns in each other's place are the rows
-pub stream_of_rows : (rows registers : List ℕ) (j : ℕ) → 256 ≤ length rows → j < 16
-    → ((b i : ℕ) → b < 16 → i < 16 → get_or registers (16 * b + i) 0 ≡ get_or rows (16 * i + b) 0)
-    → stream_in registers j ≡ take 16 (drop (16 * j) rows)
-stream_of_rows rows registers j e h turned =
-    stream_is registers (take 16 (drop (16 * j) rows)) j
-    (length-take-le 16 (drop (16 * j) rows) (omega (arith, length-drop (16 * j) rows)))
-    (λ b g. turned b j g h ∙ sym (get_or-take 16 (drop (16 * j) rows) b 0 g ∙ get_or-drop (16 * j) rows b 0))
-
 -- ---- an additive function at the half bytes
 
 module _ (f : ℕ → ℕ) (add : (a b : ℕ) → f (bit_xor a b) ≡ bit_xor (f a) (f b)) where

@@ -66,10 +66,12 @@ fn eight_counters(first: &[u8; 16], done: usize) -> [[u8; 16]; 8]
 /// Adds eight blocks of the key stream to the body, after the first `done` blocks.
 fn add_eight(body: &mut [u8], done: usize, streams: &[[u8; 16]; 8])
     requires { 16 * (done + 8) ≤ length body.old }
-    ensures { (e : List ℕ → List ℕ) → ((block : List ℕ) → length (e block) ≡ 16) → (first whole : List ℕ)
+    ensures { (e : List ℕ → List ℕ) → ((block : List ℕ) → length (e block) ≡ 16)
+        → (first whole : List ℕ)
         → streams.now ≡ map e (counters_from first done 8)
         → body.old ≡ counter_mode_from e first 0 (take (16 * done) whole) ++ drop (16 * done) whole
-        → body.new ≡ counter_mode_from e first 0 (take (16 * (done + 8)) whole) ++ drop (16 * (done + 8)) whole }
+        → body.new ≡ counter_mode_from e first 0 (take (16 * (done + 8)) whole)
+        ++ drop (16 * (done + 8)) whole }
 {
     for place in 0..8 {
         let start = 16 * (done + place);
@@ -81,7 +83,8 @@ fn add_eight(body: &mut [u8], done: usize, streams: &[[u8; 16]; 8])
 fn run_by_eight<const NK: usize>(aes: &SlicedAes<NK>, first: &[u8; 16], body: &mut [u8]) -> usize
     requires { length body.old ≤ 2 ^ 32 }
     ensures count { result ≡ 8 * (length body.old / 128) }
-    ensures body { body.new ≡ counter_mode_from (cipher NK aes.now) first.now 0 (take (16 * result) body.old)
+    ensures body { body.new
+        ≡ counter_mode_from (cipher NK aes.now) first.now 0 (take (16 * result) body.old)
         ++ drop (16 * result) body.old }
 {
     let groups = body.len() / 128;

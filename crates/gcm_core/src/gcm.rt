@@ -10,9 +10,10 @@ ghost use Rattle.gcm_core.specs.State.{HasTaken};
 use crate::counter::{add, encrypted, run_counter_mode};
 use crate::hash::{absorb, filled_block};
 use crate::subkey::Subkey;
-use crate::tag::{first_block, is_same, lengths};
+use crate::tag::{first_block, lengths};
 use aes_core::Aes;
 use cbor_profile::Feed;
+use gf2_polynomial::same_bytes;
 use std::marker::Model;
 
 /// AES-GCM with a key of NK words, as it takes the additional data.
@@ -74,15 +75,17 @@ impl<const NK: usize> Gcm<NK> {
         requires body { length body.old ≤ 2 ^ 32 }
         ensures exact { (aad : List ℕ) → HasTaken NK self.entry aad
             → (IsTrue result ↔ (tag.now ≡ tag_of (cipher NK self.entry.key) iv.now aad body.old)) }
-        ensures opened { OnTrue result (body.new ≡ ciphered (cipher NK self.entry.key) iv.now body.old) }
+        ensures opened { OnTrue result (body.new
+            ≡ ciphered (cipher NK self.entry.key) iv.now body.old) }
         ensures stays { OnFalse result (body.new ≡ body.old) }
 
         // What sealing made is opened.
         ensures undoes { (aad plain : List ℕ) → HasTaken NK self.entry aad
-            → Seals (cipher NK self.entry.key) iv.now aad plain body.old tag.now → IsTrue result × (body.new ≡ plain) }
+            → Seals (cipher NK self.entry.key) iv.now aad plain body.old tag.now
+            → IsTrue result × (body.new ≡ plain) }
     {
         let first = first_block(&self.aes, &self.subkey, iv);
-        let right = is_same(&self.tag(&first, body), tag);
+        let right = same_bytes(&self.tag(&first, body), tag);
         if right {
             run_counter_mode(&self.aes, &first, body);
         }
@@ -97,7 +100,7 @@ impl<const NK: usize> Gcm<NK> {
     {
         let first = first_block(&self.aes, &self.subkey, iv);
         let right_tag = self.tag(&first, body);
-        is_same(&right_tag, tag)
+        same_bytes(&right_tag, tag)
     }
 
     /// Takes one byte of additional data.
@@ -116,7 +119,8 @@ impl<const NK: usize> Gcm<NK> {
 
     /// The tag of a ciphertext, under the block before the first counter.
     fn tag(&self, first: &[u8; 16], ciphertext: &[u8]) -> [u8; 16]
-        ensures { (iv aad : List ℕ) → first.now ≡ first_block (cipher NK self.now.key) iv → HasTaken NK self.now aad
+        ensures { (iv aad : List ℕ) → first.now ≡ first_block (cipher NK self.now.key) iv
+            → HasTaken NK self.now aad
             → result ≡ tag_of (cipher NK self.now.key) iv aad ciphertext.now }
     {
         let used = (self.fed % 16) as usize;

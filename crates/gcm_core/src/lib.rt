@@ -8,14 +8,10 @@ mod counter;
 mod gcm;
 mod hash;
 pub mod laws;
-#[cfg(test)]
-mod long_tests;
 mod registers;
 mod streams;
 mod subkey;
 mod tag;
-#[cfg(test)]
-mod tests;
 
 pub use cbor_profile::Feed;
 pub use gcm::Gcm;

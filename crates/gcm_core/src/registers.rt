@@ -31,7 +31,8 @@ pub(crate) fn interleaved(left: u8x16, right: u8x16) -> (u8x16, u8x16)
     requires left { length left ≡ 16 }
     requires right { length right ≡ 16 }
     ensures lengths { (length result.0 ≡ 16) × (length result.1 ≡ 16) }
-    ensures first { (j : ℕ) → j < 16 → slice_index result.0 j ≡ slice_index (left ++ right) (j / 2 + 16 * (j % 2)) }
+    ensures first { (j : ℕ) → j < 16
+        → slice_index result.0 j ≡ slice_index (left ++ right) (j / 2 + 16 * (j % 2)) }
     ensures second { (j : ℕ) → j < 16
         → slice_index result.1 j ≡ slice_index (left ++ right) (8 + j / 2 + 16 * (j % 2)) }
 {

@@ -20,7 +20,8 @@ use std::simd::prelude::*;
 /// The first half's bytes and the second half's in turn.
 fn woven(bytes: &[u8]) -> [u8; 256]
     requires { length bytes.now ≡ 256 }
-    ensures { (k : ℕ) → k < 256 → slice_index result k ≡ slice_index bytes.now (k / 2 + 128 * (k % 2)) }
+    ensures { (k : ℕ) → k < 256
+        → slice_index result k ≡ slice_index bytes.now (k / 2 + 128 * (k % 2)) }
 {
     let mut woven = [0; 256];
     for row in 0..8 {
@@ -34,7 +35,8 @@ fn woven(bytes: &[u8]) -> [u8; 256]
 /// Sixteen rows of 16 bytes with rows and columns in each other's place.
 fn transposed(rows: &[u8]) -> [u8; 256]
     requires { length rows.now ≡ 256 }
-    ensures { (i j : ℕ) → i < 16 → j < 16 → slice_index result (16 * i + j) ≡ slice_index rows.now (16 * j + i) }
+    ensures { (i j : ℕ) → i < 16 → j < 16
+        → slice_index result (16 * i + j) ≡ slice_index rows.now (16 * j + i) }
 {
     let once = woven(rows);
     let twice = woven(&once);
@@ -46,7 +48,8 @@ fn transposed(rows: &[u8]) -> [u8; 256]
 fn half_bytes(streams: &[u8; 256]) -> [u8; 512]
     ensures places { (k : ℕ) → slice_index result k < 16 }
     ensures rows { (q j : ℕ) → q < 32 → j < 16
-        → slice_index result (16 * q + j) ≡ half_byte q (slice_index streams.now (16 * (q / 2) + j)) }
+        → slice_index result (16 * q + j)
+        ≡ half_byte q (slice_index streams.now (16 * (q / 2) + j)) }
 {
     let mut halves = [0; 512];
     for register in 0..16 {
@@ -77,7 +80,8 @@ fn looked_up(table: &[u8; 8192], halves: &[u8; 512], byte: usize) -> u8x16
 /// Each stream's product with the block whose products the table has.
 fn products(table: &[u8; 8192], streams: &[u8; 256]) -> [u8; 256]
     ensures { (h : List Bool) → HasProducts h table.now → (j : ℕ) → j < 16
-        → polynomial_of (stream_in result j) ≡ block_product (polynomial_of (stream_in streams.now j)) h }
+        → polynomial_of (stream_in result j)
+        ≡ block_product (polynomial_of (stream_in streams.now j)) h }
 {
     let halves = half_bytes(streams);
     let mut products = [0; 256];
@@ -89,7 +93,8 @@ fn products(table: &[u8; 8192], streams: &[u8; 256]) -> [u8; 256]
 
 /// Two times sixteen streams, each added to the other of its place.
 fn sums(left: &[u8; 256], right: &[u8; 256]) -> [u8; 256]
-    ensures { (k : ℕ) → k < 256 → slice_index result k ≡ bit_xor (slice_index left.now k) (slice_index right.now k) }
+    ensures { (k : ℕ) → k < 256
+        → slice_index result k ≡ bit_xor (slice_index left.now k) (slice_index right.now k) }
 {
     let mut sums = [0; 256];
     for register in 0..16 {
@@ -102,7 +107,8 @@ fn sums(left: &[u8; 256], right: &[u8; 256]) -> [u8; 256]
 /// The bytes of 16 blocks, one after the other.
 fn rows_of(blocks: &[u128; 16]) -> [u8; 256]
     ensures { (m b : ℕ) → m < 16 → b < 16
-        → slice_index result (16 * m + b) ≡ slice_index (block_of (bits 128 (slice_index blocks.now m))) b }
+        → slice_index result (16 * m + b)
+        ≡ slice_index (block_of (bits 128 (slice_index blocks.now m))) b }
 {
     let mut rows = [0; 256];
     for row in 0..16 {
@@ -149,8 +155,10 @@ fn sixteenth_power(subkey: &Subkey) -> u128
 /// The streams after the first 16 blocks, the hash added to the first of these.
 fn first_streams(hash: u128, bytes: &[u8]) -> [u8; 256]
     requires { 256 ≤ length bytes.now }
-    ensures zeroth { polynomial_of (stream_in result 0) ≡ polynomial_sum (bits 128 hash) (block_at bytes.now 0) }
-    ensures others { (j : ℕ) → 0 < j → j < 16 → polynomial_of (stream_in result j) ≡ block_at bytes.now j }
+    ensures zeroth { polynomial_of (stream_in result 0)
+        ≡ polynomial_sum (bits 128 hash) (block_at bytes.now 0) }
+    ensures others { (j : ℕ) → 0 < j → j < 16
+        → polynomial_of (stream_in result j) ≡ block_at bytes.now j }
 {
     let mut rows = [0; 256];
     rows.copy_from_slice(&bytes[..256]);
@@ -163,7 +171,8 @@ fn first_streams(hash: u128, bytes: &[u8]) -> [u8; 256]
 pub(crate) fn absorb_groups(subkey: &Subkey, hash: u128, bytes: &[u8]) -> u128
     requires whole { length bytes.now % 256 ≡ 0 }
     requires some { 0 < length bytes.now }
-    ensures { (before : List ℕ) → Hashes subkey.now before hash → Hashes subkey.now (before ++ bytes.now) result }
+    ensures { (before : List ℕ) → Hashes subkey.now before hash
+        → Hashes subkey.now (before ++ bytes.now) result }
 {
     let table = product_table(sixteenth_power(subkey));
     let mut streams = first_streams(hash, bytes);

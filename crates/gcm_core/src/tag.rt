@@ -1,6 +1,6 @@
 //! The parts of an authentication tag (NIST SP 800-38D, section 7).
 
-ghost use Rattle.std.specs.Prelude.{◌≡◌, ◌↔◌, ◌++◌, IsTrue};
+ghost use Rattle.std.specs.Prelude.{◌≡◌, ◌++◌};
 ghost use Rattle.aes_core.specs.Cipher.{cipher};
 ghost use Rattle.gcm_core.specs.Gcm.{first_block, hash_subkey, length_in_bits};
 
@@ -31,15 +31,4 @@ pub(crate) fn first_block<const NK: usize>(aes: &Aes<NK>, subkey: &Subkey, iv: &
     }
     let hash = absorb(subkey, 0, iv);
     absorb(subkey, hash, &lengths(0, iv.len() as u64)).to_be_bytes()
-}
-
-/// The tags are the same. Looks at all 16 bytes, wherever they differ.
-pub(crate) fn is_same(left: &[u8; 16], right: &[u8; 16]) -> bool
-    ensures { IsTrue result ↔ (left.now ≡ right.now) }
-{
-    let mut difference = 0;
-    for (place, byte) in left.iter().enumerate() {
-        difference |= byte ^ right[place];
-    }
-    difference == 0
 }

@@ -5,7 +5,4 @@
 mod bytes;
 pub mod laws;
 
-pub use bytes::add_bytes;
-
-#[cfg(test)]
-mod tests;
+pub use bytes::{add_bytes, same_bytes};

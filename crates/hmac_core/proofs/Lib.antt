@@ -1,1 +1,2 @@
+-- ---- keys
 pub mod Blocks

@@ -28,7 +28,8 @@ pub trait Hash: Feed {
     /// Writes the digest at the front of `out`, and returns its length. Takes no memory.
     fn finish(self, out: &mut [u8; 64]) -> usize
         ensures len { result ≡ DIGEST }
-        ensures digest { (message : List ℕ) → Self.stands_for self message → take DIGEST out.new ≡ digest message };
+        ensures digest { (message : List ℕ) → Self.stands_for self message
+            → take DIGEST out.new ≡ digest message };
 
     /// A digest has that length.
     ghost has_length: { (message : List ℕ) → length (digest message) ≡ DIGEST };

@@ -11,6 +11,3 @@ pub use cbor_profile::Feed;
 pub use hash::Hash;
 pub use hmac::Hmac;
 pub use sha::{Sha256, Sha384, Sha512};
-
-#[cfg(test)]
-mod tests;

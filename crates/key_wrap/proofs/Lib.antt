@@ -1,4 +1,6 @@
+-- ---- registers and steps
 pub mod StepNumbers
 pub mod RegisterLemmas
 pub mod StepLemmas
+-- ---- calls
 pub mod CallLemmas

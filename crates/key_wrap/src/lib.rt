@@ -7,6 +7,3 @@ mod registers;
 mod wrapping;
 
 pub use wrapping::{unwrap_into, wrap_into};
-
-#[cfg(test)]
-mod tests;

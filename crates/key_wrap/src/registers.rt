@@ -41,7 +41,8 @@ fn wrap_step<const NK: usize>(kek: &Aes<NK>, t: usize, check: &mut [u8; 8], grou
     requires some { 8 ≤ length groups.old }
     requires whole { length groups.old % 8 ≡ 0 }
     requires step { 1 ≤ t }
-    ensures { wrap_step NK kek.now t (registers check.old groups.old) ≡ registers check.new groups.new }
+    ensures { wrap_step NK kek.now t (registers check.old groups.old)
+        ≡ registers check.new groups.new }
 {
     let at = 8 * ((t - 1) % (groups.len() / 8));
     let mut block = joined(check, &groups[at..at + 8]);

@@ -7,6 +7,7 @@ ghost use Rattle.key_wrap.specs.KeyWrap.{IsWrappable, registers, initial_value, 
 use crate::laws::unwrapping_undoes_wrapping;
 use crate::registers::{unwrap_steps, wrap_steps};
 use aes_core::Aes;
+use gf2_polynomial::same_bytes;
 
 // The default initial value (RFC 3394, section 2.2.3.1).
 const INITIAL_VALUE: [u8; 8] = [0xa6; 8];
@@ -58,7 +59,7 @@ pub fn unwrap_into<const NK: usize>(kek: &Aes<NK>, wrapped: &[u8], out: &mut [u8
     ensures undoes { (key : List ℕ) → IsWrappable key → wrapped.now ≡ wrap NK kek.now key
         → IsTrue result × (out.new ≡ key) }
 {
-    if unwrap_registers(kek, wrapped, out) == INITIAL_VALUE {
+    if same_bytes(&unwrap_registers(kek, wrapped, out), &INITIAL_VALUE) {
         return true;
     }
     out.fill(0);

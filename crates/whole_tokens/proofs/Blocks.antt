@@ -7,7 +7,7 @@ use Rattle.bp_blocks.specs.declared.block.Block.{Block}
 use Rattle.bp_bundle.specs.Faults.{is_payload}
 use Rattle.bp_bundle.specs.Tokens.{Cursor, stops}
 use Rattle.bp_bundle.specs.FirstFault.{after_byte, end_at, check_at, header_at, block_of, block_check, closed_at, blocks_at}
-use Rattle.bp_bundle.proofs.Arguments.{TokenLaws}
+use Rattle.bp_bundle.proofs.HeadsAsSpelled.{TokenLaws}
 use Rattle.whole_tokens.specs.Tokens.Part.{Octets}
 use Rattle.whole_tokens.proofs.Ids.{unfinished_of}
 use Rattle.whole_tokens.proofs.Parted.{no_parts, behind, either, stops_here, Reads}

@@ -9,8 +9,8 @@ use Rattle.bp_blocks.specs.declared.block.Block.{Block}
 use Rattle.bp_bundle.specs.Shape.{Contents}
 use Rattle.bp_bundle.specs.Tokens.{Cursor, stops}
 use Rattle.bp_bundle.specs.FirstFault.{after_byte, begin_at, primary_at, blocks_at, front_at, bundle_at, read_bundle, end_of_input, read_only}
-use Rattle.bp_bundle.proofs.Arguments.{IsBytes, TokenLaws, here}
-use Rattle.bp_bundle.proofs.Reached.{stopped}
+use Rattle.bp_bundle.proofs.HeadsAsSpelled.{IsBytes, TokenLaws, here}
+use Rattle.correct_prefix.proofs.StopsBehindPrefix.{stopped}
 use Rattle.whole_tokens.specs.Tokens.{begun, IsLast, AreTokens, EndWithinToken}
 use Rattle.whole_tokens.proofs.Parted.{text_of, Parted, no_parts, Reads}
 use Rattle.whole_tokens.proofs.Cursors.{Stands, behind_value, FaultAt, next, bind_reads, ByteRead, byte_read}

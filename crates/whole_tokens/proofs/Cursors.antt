@@ -14,11 +14,11 @@ use Rattle.bp_eid.specs.Reading as reading
 use Rattle.bp_blocks.specs.declared.block.Block.{Block}
 use Rattle.bp_bundle.specs.Tokens.{Cursor, place_of, stops, major_of, argument_at}
 use Rattle.bp_bundle.specs.FirstFault.{past, after_byte, content_at, after_id, id_at}
-use Rattle.bp_bundle.proofs.Arguments.{IsBytes, TokenLaws, Took, ReadsArgument, argument_means}
-use Rattle.bp_bundle.proofs.PrimaryMeans.{take_drop_bytes, content_means}
-use Rattle.bp_bundle.proofs.Reached as reached
-use Rattle.bp_bundle.proofs.Reached.{StopsHere, argument_here, content_unfinished}
-use Rattle.bp_bundle.proofs.IdsReached.{placed}
+use Rattle.bp_bundle.proofs.HeadsAsSpelled.{IsBytes, TokenLaws, Took, ReadsArgument, argument_means}
+use Rattle.bp_bundle.proofs.ReadPrimaryIsSpelled.{take_drop_bytes, content_means}
+use Rattle.correct_prefix.proofs.StopsBehindPrefix as reached
+use Rattle.correct_prefix.proofs.StopsBehindPrefix.{StopsHere, argument_here, content_unfinished}
+use Rattle.correct_prefix.proofs.IdStopsBehindPrefix.{placed}
 use Rattle.whole_tokens.specs.Tokens.{IsLast}
 use Rattle.whole_tokens.specs.Tokens.Part.{Number, Array}
 use Rattle.whole_tokens.proofs.Parted.{text_of, no_parts, behind, parted_then, Stops, stops_here, Outcome, Reads}

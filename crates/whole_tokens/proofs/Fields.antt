@@ -9,7 +9,7 @@ use Rattle.bp_primary.specs.Flags.{is_fragment}
 use Rattle.bp_blocks.specs.declared.block.Block.{Block}
 use Rattle.bp_bundle.specs.Tokens.{Cursor, stops}
 use Rattle.bp_bundle.specs.FirstFault.{id_at, check_type_at, check_string_at, check_at, nodes_at, times_at, piece_at, fields_at, primary_check, primary_at, header_at}
-use Rattle.bp_bundle.proofs.Arguments.{TokenLaws}
+use Rattle.bp_bundle.proofs.HeadsAsSpelled.{TokenLaws}
 use Rattle.whole_tokens.specs.Tokens.Part.{Octets}
 use Rattle.whole_tokens.proofs.Parted.{no_parts, one_part, either, Reads}
 use Rattle.whole_tokens.proofs.Cursors.{Stands, Ends, behind_value, itself, FaultAt, next, head_next, BehindHead, string_next, content_next, refused_content, id_at_reads}

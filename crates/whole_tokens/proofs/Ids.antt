@@ -15,10 +15,10 @@ use Rattle.bp_eid.specs.declared.eid.Eid.TheVariants.{Null, Dtn}
 use Rattle.bp_eid.specs.declared.stop.Stop.{Stop}
 use Rattle.bp_eid.specs.DtnText.{is_dtn_text}
 use Rattle.bp_eid.specs.Reading.{stops, at_token, head_at, pair_at, number_at, content_at, dtn_at, ipn_at, id_at}
-use Rattle.bp_bundle.proofs.Arguments.{IsBytes, TokenLaws, one_kind}
-use Rattle.bp_bundle.proofs.Reached.{LacksOne, head_unfinished}
-use Rattle.bp_bundle.proofs.HeadsReached.{stopped, Headed, headed, Numbered}
-use Rattle.bp_bundle.proofs.IdsReached.{null_or_text}
+use Rattle.bp_bundle.proofs.HeadsAsSpelled.{IsBytes, TokenLaws, one_kind}
+use Rattle.correct_prefix.proofs.StopsBehindPrefix.{LacksOne, head_unfinished}
+use Rattle.correct_prefix.proofs.ListStopsBehindPrefix.{stopped, Headed, headed, Numbered}
+use Rattle.correct_prefix.proofs.IdStopsBehindPrefix.{null_or_text}
 use Rattle.whole_tokens.specs.Tokens.{IsUnfinished}
 use Rattle.whole_tokens.specs.Tokens.Part.{Number, Array, Text}
 use Rattle.whole_tokens.proofs.Parted.{no_parts, behind, one_part, Stops, stops_here, Reads, either}

@@ -18,13 +18,16 @@ use cbor_profile::laws::{
 /// of a bundle that is read are whole tokens, and a fault of an input that goes on stands behind them.
 pub fn faults_stand_at_the_end_of_whole_tokens()
     ensures before { (bytes : List ℕ) (fault : Fault) → ((i : ℕ) → slice_index bytes i < 256)
-        → read_bundle bytes ≡ Err fault → fault.reason ≢ Truncated → AreTokens (take fault.place bytes) }
+        → read_bundle bytes ≡ Err fault → fault.reason ≢ Truncated
+        → AreTokens (take fault.place bytes) }
     ensures early { (bytes : List ℕ) (fault : Fault) → ((i : ℕ) → slice_index bytes i < 256)
         → read_bundle bytes ≡ Err fault → fault.reason ≡ Truncated → EndWithinToken bytes }
-    ensures whole { (bytes : List ℕ) (bundle : Contents) (after : Cursor) → ((i : ℕ) → slice_index bytes i < 256)
+    ensures whole { (bytes : List ℕ) (bundle : Contents) (after : Cursor)
+        → ((i : ℕ) → slice_index bytes i < 256)
         → read_bundle bytes ≡ Ok (bundle, after) → AreTokens (take after.at bytes) }
     ensures input { (bytes : List ℕ) (fault : Fault) → ((i : ℕ) → slice_index bytes i < 256)
-        → read_only bytes ≡ Err fault → fault.reason ≢ Truncated → AreTokens (take fault.place bytes) }
+        → read_only bytes ≡ Err fault → fault.reason ≢ Truncated
+        → AreTokens (take fault.place bytes) }
 {
     tokens_are_read_as_spelled();
 }

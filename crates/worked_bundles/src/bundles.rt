@@ -1,312 +1,246 @@
-//! Cases from outside: bundles read in pieces of one byte, of seven, and whole.
+//! Calls of `bp_bundle` and `bpsec_explain`.
 
-use bp_blocks::Block;
-use bp_bundle::{Bundle, InsertFault, Reader, ShapeFault};
+use crate::blocks::{block_of, primary_of};
+use bp_bundle::{Bundle, Bundles, InputFault, InsertFault, Reader, laws, read_one};
 use bp_crc::CheckKind;
-use bp_eid::Eid;
-use bp_primary::Primary;
-use cbor_profile::{Bytes, Fault, List, Reason, SpellError, put_uint};
+use bp_outside::SteadySource;
+use bpsec_explain::explain;
+use cbor_profile::{Bytes, List, SpellError};
 use std::alloc::Global;
-use std::test::Fail;
+use worked_tables::{Fields, Told, Trouble, answer, hex, lines, spell_error, text};
+use worked_values::{bundle_of, bundle_text, read};
 
-/// A bundle of 72 bytes (RFC 9173, appendix A.1.1.3).
-const BUNDLE: &[u8] =
-    b"\x9f\x88\x07\x00\x00\x82\x02\x82\x01\x02\x82\x02\x82\x02\x01\x82\x02\x82\x02\x01\x82\x00\x18\x28\x1a\x00\x0f\x42\x40\x85\x01\x01\x00\x00\x58\x23Ready to generate a 32-byte payload\xff";
+pub fn told(alloc: Global, call: &str, row: &mut Fields) -> Told {
+    match call {
+        "bundle" => answer(bundle(alloc, row)),
+        "prefixes" => answer(prefixes(alloc, row)),
+        "parts" => answer(parts(alloc, row)),
+        "make" => answer(made(alloc, row)),
+        "insert" => answer(inserted(alloc, row)),
+        "remove" => answer(removed(alloc, row)),
+        "replace" => answer(replaced(alloc, row)),
+        "without-check" => answer(without_check(alloc, row)),
+        "in-turn" => answer(in_turn(alloc, row)),
+        "one" => answer(one(alloc, row)),
+        "explain" => answer(explained(alloc, row)),
+        _ => Ok(None),
+    }
+}
 
-/// What reading these bytes gives, in pieces of this many.
-fn read(alloc: Global, bytes: &[u8], most: usize) -> Result<Bundle, SpellError> {
-    let mut reader = Reader::new(alloc);
-    for piece in bytes.chunks(most.max(1)) {
-        match reader.feed(piece) {
-            Ok(fed) if !fed.done => {}
-            _ => break,
+/// What these bytes are, read in pieces of this many: the bundle written again is them, or the first fault.
+fn spelled(alloc: Global, bytes: &[u8], size: usize) -> Result<String, Trouble> {
+    match read(alloc, bytes, size) {
+        Ok(bundle) => {
+            let mut out = Bytes::new(alloc);
+            bundle.encode(&mut out)?;
+            if out.as_slice() != bytes {
+                return text(alloc, "written otherwise");
+            }
+            let size = bundle.size();
+            let blocks = bundle.blocks().len();
+            Ok(format!(in alloc; "bundle bytes={size} blocks={blocks}")?)
+        }
+        Err(error) => spell_error(alloc, error),
+    }
+}
+
+/// The same, if it is so in pieces of one byte, of seven, and whole.
+fn spelled_in_pieces(alloc: Global, bytes: &[u8]) -> Result<String, Trouble> {
+    let whole = spelled(alloc, bytes, 100_000)?;
+    let sevens = spelled(alloc, bytes, 7)?;
+    let single = spelled(alloc, bytes, 1)?;
+    if sevens.as_str() != whole.as_str() || single.as_str() != whole.as_str() {
+        return text(alloc, "pieces change the answer");
+    }
+    Ok(whole)
+}
+
+/// `bundle BYTES`: its size and its blocks where it is written again as it was read; or the first fault.
+fn bundle(alloc: Global, row: &mut Fields) -> Result<String, Trouble> {
+    let bytes = row.bytes(alloc)?;
+    spelled_in_pieces(alloc, &bytes)
+}
+
+/// `prefixes BYTES`: whether each proper front of the bytes is cut off at its end, and nowhere else at fault.
+fn prefixes(alloc: Global, row: &mut Fields) -> Result<String, Trouble> {
+    let bytes = row.bytes(alloc)?;
+    for length in 0..bytes.len() {
+        let answer = spelled_in_pieces(alloc, &bytes[..length])?;
+        let wanted = format!(in alloc; "fault {length} Truncated")?;
+        if answer.as_str() != wanted.as_str() {
+            return Ok(format!(in alloc; "the front of {length} bytes is not")?);
         }
     }
-    reader.finish()
+    text(alloc, "each is cut off at its end")
 }
 
-/// The fault that reading answers.
-fn fault(alloc: Global, bytes: &[u8], most: usize) -> Option<Fault> {
-    match read(alloc, bytes, most) {
-        Err(SpellError::Fault(fault)) => Some(fault),
-        Err(SpellError::NoMemory) => None,
-        Ok(_bundle) => None,
+/// `parts BUNDLE NUMBER`: the size of a copy, the index of the block with this number, and the lifetime.
+fn parts(alloc: Global, row: &mut Fields) -> Result<String, Trouble> {
+    let bundle = bundle_of(alloc, row)?.copy(alloc)?;
+    let size = bundle.size();
+    let index = bundle.index_of(row.number()?);
+    let lifetime = bundle.primary().lifetime;
+    Ok(format!(in alloc; "{size} {index:?} {lifetime}")?)
+}
+
+/// `make PRIMARY BLOCKS`: the bundle of a primary block and of blocks, taken apart and made again, or why it isn't one.
+fn made(alloc: Global, row: &mut Fields) -> Result<String, Trouble> {
+    let primary = primary_of(alloc, row)?;
+    let mut blocks = Vec::new(alloc);
+    for _ in 0..100 {
+        if row.is_over() {
+            break;
+        }
+        blocks.push(block_of(alloc, row)?)?;
+    }
+    match Bundle::of(primary, List::of(blocks)) {
+        Ok(bundle) => {
+            let (primary, blocks) = bundle.into_parts();
+            match Bundle::of(primary, blocks) {
+                Ok(bundle) => bundle_text(alloc, &bundle),
+                Err(_) => text(alloc, "its parts make no bundle"),
+            }
+        }
+        Err(fault) => Ok(format!(in alloc; "{fault:?}")?),
     }
 }
 
-/// Whether reading stops so, in pieces of one byte, of seven, and whole.
-fn stops(alloc: Global, bytes: &[u8], place: u64, reason: Reason) -> bool {
-    let wanted = Some(Fault { place, reason });
-    fault(alloc, bytes, 1) == wanted
-        && fault(alloc, bytes, 7) == wanted
-        && fault(alloc, bytes, 100_000) == wanted
-}
-
-/// The first so many bytes of the bundle, and these.
-fn front(alloc: Global, count: usize, more: &[u8]) -> Result<Bytes, Fail> {
-    let mut bytes = Bytes::new(alloc);
-    bytes.extend(&BUNDLE[..count.min(BUNDLE.len())])?;
-    bytes.extend(more)?;
-    Ok(bytes)
-}
-
-/// The bundle that is read, written again.
-fn again(alloc: Global, bytes: &[u8], most: usize) -> Result<Bytes, Fail> {
-    let bundle = read(alloc, bytes, most)?;
-    let mut out = Bytes::new(alloc);
-    bundle.encode(&mut out)?;
-    Ok(out)
-}
-
-#[test]
-fn whole_bundle(rt: HostRuntime) -> Result<(), Fail> {
-    assert_eq!(rt; again(rt.alloc(), BUNDLE, 1)?.as_slice(), BUNDLE);
-    assert_eq!(rt; again(rt.alloc(), BUNDLE, 7)?.as_slice(), BUNDLE);
-    assert_eq!(rt; again(rt.alloc(), BUNDLE, 100)?.as_slice(), BUNDLE);
-    Ok(())
-}
-
-#[test]
-fn parts(rt: HostRuntime) -> Result<(), Fail> {
-    let bundle = read(rt.alloc(), BUNDLE, 100)?.copy(rt.alloc())?;
-    assert_eq!(rt; bundle.size(), 72);
-    assert_eq!(rt; bundle.index_of(1), Some(0));
-    assert_eq!(rt; bundle.index_of(2), None);
-    assert_eq!(rt; bundle.primary().lifetime, 1_000_000);
-    Ok(())
-}
-
-#[test]
-fn proper_prefixes(rt: HostRuntime) {
-    for len in 0..72 {
-        assert!(rt; stops(rt.alloc(), &BUNDLE[..len], len as u64, Reason::Truncated));
+/// `insert BUNDLE INDEX BLOCK`: the bundle with the block at the index and its size, or why it isn't inserted.
+fn inserted(alloc: Global, row: &mut Fields) -> Result<String, Trouble> {
+    let mut bundle = bundle_of(alloc, row)?;
+    let index = row.number()? as usize;
+    let block = block_of(alloc, row)?;
+    if index >= bundle.blocks().len() {
+        return Err(Trouble::Row("the index of a block"));
+    }
+    match bundle.insert(index, block) {
+        Ok(()) => {
+            let size = bundle.size();
+            let spelled = bundle_text(alloc, &bundle)?;
+            let spelled = spelled.as_str();
+            Ok(format!(in alloc; "{size} {spelled}")?)
+        }
+        Err(InsertFault::NoMemory) => Err(Trouble::NoMemory),
+        Err(InsertFault::Shape(fault)) => {
+            let blocks = bundle.blocks().len();
+            Ok(format!(in alloc; "{fault:?} blocks={blocks}")?)
+        }
     }
 }
 
-/// How many bytes of the bundle, what follows them, and the fault.
-static FAULTS: [(usize, &[u8], u64, Reason); 32] = [
-    (0, b"\x80", 0, Reason::NotBundle),
-    (1, b"\x87", 1, Reason::WrongCount),
-    (
-        1,
-        b"\x9b\x80\x00\x00\x00\x00\x00\x00\x00",
-        1,
-        Reason::WrongCount,
-    ),
-    (1, b"\xff", 1, Reason::WrongKind),
-    (1, b"\x98\x08", 1, Reason::NotShortest),
-    (2, b"\x06", 2, Reason::WrongValue),
-    (3, b"\x01", 3, Reason::WrongCount),
-    (1, b"\x8a\x07\x00", 3, Reason::WrongCount),
-    (4, b"\x03", 4, Reason::WrongValue),
-    (4, b"\x01", 4, Reason::WrongCount),
-    (1, b"\x89\x07\x00\x00", 4, Reason::WrongCount),
-    (
-        5,
-        b"\x82\x01\x7b\xff\xff\xff\xff\xff\xff\xff\xff",
-        7,
-        Reason::WrongValue,
-    ),
-    (5, b"\x82\x03", 6, Reason::WrongValue),
-    (5, b"\x82\x01\x63abc", 8, Reason::WrongText),
-    (20, b"\x83", 20, Reason::WrongCount),
-    (
-        24,
-        b"\x1b\x00\x00\x00\x00\x00\x0f\x42\x40",
-        24,
-        Reason::NotShortest,
-    ),
-    (29, b"\x84", 29, Reason::WrongCount),
-    (29, b"\xff", 29, Reason::WrongKind),
-    (29, b"\x85\x01\x02", 31, Reason::WrongValue),
-    (29, b"\x85\x02\x01", 31, Reason::WrongValue),
-    (29, b"\x85\x02\x00", 31, Reason::WrongValue),
-    (
-        29,
-        b"\x85\x06\x02\x00\x00\x40\x85\x06",
-        36,
-        Reason::Repeated,
-    ),
-    (
-        29,
-        b"\x85\x07\x02\x00\x00\x40\x85\x07",
-        36,
-        Reason::Repeated,
-    ),
-    (
-        29,
-        b"\x85\x0a\x02\x00\x00\x40\x85\x0a",
-        36,
-        Reason::Repeated,
-    ),
-    (29, b"\x86\x01\x01\x00\x02\x40\x42", 35, Reason::WrongValue),
-    (
-        29,
-        b"\x85\x02\x02\x00\x00\x40\x85\x03\x02",
-        37,
-        Reason::Repeated,
-    ),
-    (29, b"\x85\x01\x01\x00\x01", 33, Reason::WrongCount),
-    (29, b"\x86\x01\x01\x00\x00", 33, Reason::WrongCount),
-    (29, b"\x85\x01\x01\x00\x00\x60", 34, Reason::WrongKind),
-    (
-        34,
-        b"\x5b\x80\x00\x00\x00\x00\x00\x00\x00",
-        34,
-        Reason::TooLong,
-    ),
-    (29, b"\x86\x01\x01\x00\x01\x40\x43", 35, Reason::WrongValue),
-    (29, b"\x85\x01\x01\x00\x00\x40\x85", 35, Reason::WrongKind),
-];
-
-#[test]
-fn first_faults(rt: HostRuntime) -> Result<(), Fail> {
-    for (count, more, place, reason) in &FAULTS {
-        let bytes = front(rt.alloc(), *count, more)?;
-        assert!(rt; stops(rt.alloc(), bytes.as_slice(), *place, *reason));
+/// `remove BUNDLE INDEX`: the number of the block that is removed, and the size and the bytes of what is left.
+fn removed(alloc: Global, row: &mut Fields) -> Result<String, Trouble> {
+    let mut bundle = bundle_of(alloc, row)?;
+    let index = row.number()? as usize;
+    let count = bundle.blocks().len();
+    if count < 2 || index > count - 2 {
+        return Err(Trouble::Row("the index of a block before the payload"));
     }
-    Ok(())
+    let number = bundle.remove(index).number;
+    let size = bundle.size();
+    let spelled = bundle_text(alloc, &bundle)?;
+    let spelled = spelled.as_str();
+    Ok(format!(in alloc; "{number} {size} {spelled}")?)
 }
 
-/// The primary block, and so many blocks of type 2 with the numbers from 2 on.
-fn blocks(alloc: Global, count: u64) -> Result<Bytes, Fail> {
-    let mut bytes = front(alloc, 29, b"")?;
-    for i in 0..count {
-        bytes.extend(b"\x85\x02")?;
-        put_uint(&mut bytes, i.saturating_add(2))?;
-        bytes.extend(b"\x00\x00\x40")?;
+/// `replace BUNDLE INDEX BODY`: the body that was there, and the size and the bytes of the bundle with the new one.
+fn replaced(alloc: Global, row: &mut Fields) -> Result<String, Trouble> {
+    let mut bundle = bundle_of(alloc, row)?;
+    let index = row.number()? as usize;
+    let body = Bytes::of(row.bytes(alloc)?);
+    if index >= bundle.blocks().len() {
+        return Err(Trouble::Row("the index of a block"));
     }
-    Ok(bytes)
-}
-
-#[test]
-fn most_blocks(rt: HostRuntime) -> Result<(), Fail> {
-    let mut bytes = blocks(rt.alloc(), 63)?;
-    bytes.extend(b"\x85\x01\x01\x00\x00\x40\xff")?;
-    let out = again(rt.alloc(), bytes.as_slice(), 7)?;
-    assert_eq!(rt; out.as_slice(), bytes.as_slice());
-    let mut more = blocks(rt.alloc(), 64)?;
-    let place = more.len() as u64;
-    more.extend(b"\x85")?;
-    assert!(rt; stops(rt.alloc(), more.as_slice(), place, Reason::TooLong));
-    Ok(())
-}
-
-#[test]
-fn empty_payload(rt: HostRuntime) -> Result<(), Fail> {
-    let bytes = front(rt.alloc(), 29, b"\x85\x01\x01\x00\x00\x40\xff")?;
-    let out = again(rt.alloc(), bytes.as_slice(), 7)?;
-    assert_eq!(rt; out.as_slice(), bytes.as_slice());
-    Ok(())
-}
-
-/// The bundle, made of its parts, with this check over its primary block.
-fn made(alloc: Global, crc: CheckKind) -> Result<Bytes, Fail> {
-    let primary = Primary {
-        flags: 0,
-        crc,
-        destination: Eid::Ipn {
-            node: 1,
-            service: 2,
-        },
-        source: Eid::Ipn {
-            node: 2,
-            service: 1,
-        },
-        report_to: Eid::Ipn {
-            node: 2,
-            service: 1,
-        },
-        created: 0,
-        sequence: 40,
-        lifetime: 1_000_000,
-        fragment: None,
+    let Ok(old) = bundle.replace_body(index, body) else {
+        return text(alloc, "too long");
     };
-    let mut payload = block(alloc, 1, 1);
-    payload.body.extend(b"Ready to generate a 32-byte payload")?;
-    let mut blocks = List::new(alloc);
-    blocks.push(payload).ok().ok_or("out of memory")?;
-    let mut out = Bytes::new(alloc);
-    Bundle::of(primary, blocks)
-        .ok()
-        .ok_or("no bundle")?
-        .encode(&mut out)?;
-    Ok(out)
+    let old = hex(alloc, old.as_slice())?;
+    let old = old.as_str();
+    let size = bundle.size();
+    let spelled = bundle_text(alloc, &bundle)?;
+    let spelled = spelled.as_str();
+    Ok(format!(in alloc; "{old} {size} {spelled}")?)
 }
 
-#[test]
-fn made_of_its_parts(rt: HostRuntime) -> Result<(), Fail> {
-    assert_eq!(rt; made(rt.alloc(), CheckKind::None)?.as_slice(), BUNDLE);
-    Ok(())
+/// `without-check BUNDLE`: its size, and the size and the bytes once the check of its primary block is taken off.
+fn without_check(alloc: Global, row: &mut Fields) -> Result<String, Trouble> {
+    let mut bundle = bundle_of(alloc, row)?;
+    laws::checks_have_sizes();
+    let before = bundle.size();
+    bundle.set_crc(0, CheckKind::None);
+    let size = bundle.size();
+    let spelled = bundle_text(alloc, &bundle)?;
+    let spelled = spelled.as_str();
+    Ok(format!(in alloc; "{before} {size} {spelled}")?)
 }
 
-#[test]
-fn a_check_with_a_turned_bit(rt: HostRuntime) -> Result<(), Fail> {
-    let alloc = rt.alloc();
-    let mut out = made(alloc, CheckKind::Crc32c)?;
-    assert_eq!(rt; out.len(), 77);
-    assert_eq!(rt; again(alloc, out.as_slice(), 7)?.as_slice(), out.as_slice());
-    let bytes = out.as_mut_slice();
-    assert_eq!(rt; bytes.len(), 77);
-    bytes[33] ^= 1;
-    assert!(rt; stops(alloc, out.as_slice(), 30, Reason::WrongCheck));
-    Ok(())
-}
-
-/// A block without a check.
-fn block(alloc: Global, kind: u64, number: u64) -> Block {
-    Block {
-        kind,
-        number,
-        flags: 0,
-        crc: CheckKind::None,
-        body: Bytes::new(alloc),
+fn input_fault(alloc: Global, fault: InputFault) -> Result<String, Trouble> {
+    match fault {
+        InputFault::Failed => text(alloc, "failed"),
+        InputFault::NoMemory => Err(Trouble::NoMemory),
+        InputFault::Fault(fault) => spell_error(alloc, SpellError::Fault(fault)),
     }
 }
 
-#[test]
-fn inserting(rt: HostRuntime) -> Result<(), Fail> {
-    let mut bundle = read(rt.alloc(), BUNDLE, 100)?;
-    assert_eq!(rt; bundle.blocks().len(), 1);
-    assert_eq!(rt; bundle.insert(0, block(rt.alloc(), 7, 2)), Ok(()));
-    assert_eq!(rt; bundle.size(), 78);
-    assert_eq!(rt; bundle.blocks().len(), 2);
-    assert_eq!(rt;
-        bundle.insert(0, block(rt.alloc(), 7, 3)),
-        Err(InsertFault::Shape(ShapeFault::Repeated { index: 1 }))
-    );
-    assert_eq!(rt; bundle.blocks().len(), 2);
-    assert_eq!(rt; bundle.remove(0).number, 2);
-    assert_eq!(rt; bundle.size(), 72);
-    Ok(())
+/// The bundles that these bytes hold, back to back, at most so many bytes a read: how many, and the fault that ends them. A
+/// fault that was met is answered again.
+fn counted(alloc: Global, bytes: &[u8], most: usize) -> Result<String, Trouble> {
+    let mut copy = Bytes::new(alloc);
+    copy.extend(bytes)?;
+    let mut source = SteadySource::new(copy, most.max(1));
+    let mut bundles = Bundles::new(alloc);
+    for count in 0..4 {
+        if bundles.taken() > 1 << 30 {
+            break;
+        }
+        match bundles.next(&mut source) {
+            Ok(Some(_bundle)) => {}
+            Ok(None) => return Ok(format!(in alloc; "{count} the end")?),
+            Err(fault) => {
+                if bundles.taken() > 1 << 30 {
+                    break;
+                }
+                if !matches!(bundles.next(&mut source), Err(again) if again == fault) {
+                    return text(alloc, "a fault isn't answered again");
+                }
+                let fault = input_fault(alloc, fault)?;
+                let fault = fault.as_str();
+                return Ok(format!(in alloc; "{count} {fault}")?);
+            }
+        }
+    }
+    text(alloc, "more")
 }
 
-#[test]
-fn replacing(rt: HostRuntime) -> Result<(), Fail> {
-    let mut bundle = read(rt.alloc(), BUNDLE, 100)?;
-    assert_eq!(rt; bundle.blocks().len(), 1);
-    let mut body = Bytes::new(rt.alloc());
-    body.extend(b"ab")?;
-    let old = bundle.replace_body(0, body).ok().ok_or("too long")?;
-    assert_eq!(rt; old.len(), 35);
-    assert_eq!(rt; bundle.size(), 38);
-    Ok(())
+/// `in-turn BYTES`: how many bundles they hold back to back, and what ends them, read one byte, seven and all at a time.
+fn in_turn(alloc: Global, row: &mut Fields) -> Result<String, Trouble> {
+    let bytes = row.bytes(alloc)?;
+    let whole = counted(alloc, &bytes, 100_000)?;
+    let sevens = counted(alloc, &bytes, 7)?;
+    let single = counted(alloc, &bytes, 1)?;
+    if sevens.as_str() != whole.as_str() || single.as_str() != whole.as_str() {
+        return text(alloc, "reads change the answer");
+    }
+    Ok(whole)
 }
 
-#[test]
-fn shapes(rt: HostRuntime) {
-    let alloc = rt.alloc();
-    let primary = Primary {
-        flags: 0,
-        crc: CheckKind::None,
-        destination: Eid::Null,
-        source: Eid::Null,
-        report_to: Eid::Null,
-        created: 0,
-        sequence: 0,
-        lifetime: 0,
-        fragment: None,
-    };
-    let none = Bundle::of(primary, List::new(alloc));
-    assert!(rt; matches!(&none, Err(ShapeFault::NoPayloadLast)));
+/// `one BYTES`: the size of the one bundle that an input of them holds, or what stands in its way.
+fn one(alloc: Global, row: &mut Fields) -> Result<String, Trouble> {
+    let bytes = row.bytes(alloc)?;
+    let mut source = SteadySource::new(Bytes::of(bytes), 7);
+    match read_one(alloc, &mut source) {
+        Ok(bundle) => {
+            let size = bundle.size();
+            Ok(format!(in alloc; "bundle bytes={size}")?)
+        }
+        Err(fault) => input_fault(alloc, fault),
+    }
+}
+
+/// `explain BUNDLE`: its explanation, with strokes in place of the ends of lines.
+fn explained(alloc: Global, row: &mut Fields) -> Result<String, Trouble> {
+    let bundle = bundle_of(alloc, row)?;
+    let mut out = Bytes::new(alloc);
+    explain(alloc, &bundle, &mut out)?;
+    lines(alloc, out.as_slice())
 }

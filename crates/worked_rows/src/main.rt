@@ -9,42 +9,17 @@ mod table;
 mod told;
 mod trials;
 
-use bp_outside::{FolderShelf, OutputSink, Shelf, Sink, write_all};
-use cbor_profile::Bytes;
+use bp_outside::{FolderShelf, OutputSink};
 use std::alloc::Global;
 use std::process::ExitCode;
-use std::rt::Env;
-use std::{env, io};
+use worked_tables::{Ended, Tables, Trouble, names_of, run_each};
 
-/// The most bytes that a table has.
-const TABLE_LIMIT: u64 = 8_388_608;
+/// The tables of this program.
+struct Own;
 
-/// The names of the tables: the words after the program's name.
-fn names_of(rt: &(impl Env + AllocGlobal)) -> io::Result<Vec<String>> {
-    let names: Vec<String> = env::args(rt)?.skip(1).collect(rt.alloc())?;
-    Ok(names)
-}
-
-/// Runs the table of a name, and writes what comes of it. Whether no row differs.
-fn run_named<K: Shelf, W: Sink>(alloc: Global, shelf: &mut K, name: &str, out: &mut W) -> bool {
-    let mut bytes = Bytes::new(alloc);
-    if shelf.fetch(name, TABLE_LIMIT, &mut bytes).is_err() {
-        let _written = write_all(out, b"a table can't be read\n");
-        return false;
-    }
-    let Ok(text) = std::str::from_utf8(bytes.as_slice()) else {
-        let _written = write_all(out, b"a table is no text\n");
-        return false;
-    };
-    match table::run(alloc, name, text) {
-        Ok(ended) => {
-            let written = write_all(out, ended.lines.as_bytes()).is_ok();
-            written && ended.differing == 0
-        }
-        Err(_) => {
-            let _written = write_all(out, b"out of memory\n");
-            false
-        }
+impl Tables for Own {
+    fn run(alloc: Global, name: &str, table: &str) -> Result<Ended, Trouble> {
+        table::run(alloc, name, table)
     }
 }
 
@@ -55,11 +30,6 @@ fn main(rt: HostRuntime) -> ExitCode {
     };
     let alloc = rt.alloc();
     let mut shelf = FolderShelf::new(alloc, rt);
-    let mut same = true;
-    for name in &names {
-        if !run_named(alloc, &mut shelf, name.as_str(), &mut out) {
-            same = false;
-        }
-    }
+    let same = run_each::<Own, _, _>(alloc, &mut shelf, names.as_slice(), &mut out);
     ExitCode::from(if same { 0 } else { 1 })
 }

@@ -3,14 +3,76 @@
 use crate::row::Row;
 use crate::trials::{Tried, try_row};
 use std::alloc::Global;
-use worked_tables::{Trouble, bytes_of};
+use worked_tables::{Ended, Trouble, bytes_of};
 
-/// What a table comes to.
-#[derive(Drop)]
-pub struct Ended {
-    /// Its line, behind the lines of each row that differs.
-    pub lines: String,
-    pub differing: u64,
+/// The words that begin the lines of a row, and of the lines that rows have in common.
+const WORDS: [&str; 28] = [
+    "after",
+    "as-unhindered",
+    "before",
+    "body",
+    "ends",
+    "failing-fetches",
+    "failing-reads",
+    "failing-report-writes",
+    "failing-writes",
+    "file",
+    "filled",
+    "hex",
+    "input",
+    "keep",
+    "new",
+    "of",
+    "old",
+    "out",
+    "pieces",
+    "prints",
+    "report",
+    "room",
+    "size",
+    "starts",
+    "status",
+    "text",
+    "vary",
+    "words",
+];
+
+/// What lines are of.
+#[derive(Clone, Copy)]
+enum Lines {
+    Rows,
+    /// Names and remarks.
+    Notes,
+}
+
+fn is_word(word: &str) -> bool {
+    for known in &WORDS {
+        if *known == word {
+            return true;
+        }
+    }
+    false
+}
+
+/// Whether a line may stand there.
+fn may_stand(line: &str, lines: Lines) -> bool {
+    match lines {
+        Lines::Notes => line.is_empty() || line.starts_with("#") || line.starts_with("let "),
+        Lines::Rows => match line.split_once(' ') {
+            Some((word, _)) => is_word(word),
+            None => line.is_empty() || is_word(line),
+        },
+    }
+}
+
+/// Whether each line of a text may stand there: a word that no row has would say nothing.
+fn may_all_stand(text: &str, lines: Lines) -> bool {
+    for line in text.lines() {
+        if !may_stand(line, lines) {
+            return false;
+        }
+    }
+    true
 }
 
 /// What stands while a table runs: the lines that rows have in common, what was counted and told, what the row before
@@ -89,6 +151,9 @@ impl<'a> Running<'a> {
             table: self.table,
         };
         self.rows = self.rows.saturating_add(1);
+        if !may_all_stand(own, Lines::Rows) {
+            return self.note_lacking(alloc, name, "lines that begin with the words of rows");
+        }
         match tried(alloc, &row, self.last.as_slice(), self.kept.as_slice()) {
             Ok(tried) => self.note(tried),
             Err(Trouble::Row(lacking)) => self.note_lacking(alloc, name, lacking),
@@ -107,9 +172,12 @@ impl<'a> Running<'a> {
         }
         if first == "common" {
             self.common = rest;
+            if !may_all_stand(rest, Lines::Rows) {
+                return self.note_lacking(alloc, first, "lines that begin with the words of rows");
+            }
             return Ok(());
         }
-        if first.is_empty() || first.starts_with("#") || first.starts_with("let ") {
+        if may_all_stand(paragraph, Lines::Notes) {
             return Ok(());
         }
         self.note_lacking(alloc, first, "a row, common lines, names or a remark")

@@ -17,10 +17,12 @@ fn exchange(low: u8x16, high: u8x16, mask: u8, by: u8) -> (u8x16, u8x16)
     requires low { length low ≡ 16 }
     requires high { length high ≡ 16 }
     ensures wide { (length result.0 ≡ 16) × (length result.1 ≡ 16) }
-    ensures low { (p : ℕ) → p < 16 → slice_index result.0 p ≡ low_of mask by (slice_index low p) (slice_index high p) }
+    ensures low { (p : ℕ) → p < 16
+        → slice_index result.0 p ≡ low_of mask by (slice_index low p) (slice_index high p) }
     ensures high { (p : ℕ) → p < 16
         → slice_index result.1 p ≡ high_of mask by (slice_index low p) (slice_index high p) }
-    ensures bytes { (p : ℕ) → p < 16 → (slice_index result.0 p < 256) × (slice_index result.1 p < 256) }
+    ensures bytes { (p : ℕ) → p < 16
+        → (slice_index result.0 p < 256) × (slice_index result.1 p < 256) }
 {
     let moved = ((low >> u8x16::splat(by)) ^ high) & u8x16::splat(mask);
     (low ^ (moved << u8x16::splat(by)), high ^ moved)
@@ -30,7 +32,8 @@ fn exchange(low: u8x16, high: u8x16, mask: u8, by: u8) -> (u8x16, u8x16)
 #[inline(always)]
 fn transposed(r: Registers) -> Registers
     ensures turned { (p : ℕ) → p < 16
-        → map bits_of (lane p (registers_of result)) ≡ columns (map bits_of (lane p (registers_of r))) }
+        → map bits_of (lane p (registers_of result))
+        ≡ columns (map bits_of (lane p (registers_of r))) }
     ensures bytes { (p : ℕ) → p < 16 → All (λ b. b < 256) (lane p (registers_of result)) }
 {
     let (a0, a1) = exchange(r.bit0, r.bit1, 0x55, 1);

@@ -74,7 +74,7 @@ impl BundleJob for Fragment {
             Ok(pieces) => pieces_answer(alloc, pieces.items()),
             Err(fault) => match cut_reason(fault) {
                 Some(reason) => pieces_refused(alloc, reason, None),
-                None => Err(NoMemory),
+                None => Err(NoMemory::again()),
             },
         }
     }

@@ -40,7 +40,7 @@ fn run(
     let mut digits = Digits::new(order);
     match session.run_all(ring, &mut digits) {
         Ok(outcome) => ended(alloc, &outcome),
-        Err((_, NoMemory)) => Err(NoMemory),
+        Err((_, error)) => Err(error),
     }
 }
 
@@ -71,7 +71,7 @@ impl KeyedJob for Node {
                     second,
                 },
             ) => double_refused(alloc, target, first, second),
-            Err(BeginFault::NoMemory) => Err(NoMemory),
+            Err(BeginFault::NoMemory) => Err(NoMemory::again()),
         }
     }
 }

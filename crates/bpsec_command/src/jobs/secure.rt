@@ -39,7 +39,7 @@ impl KeyedJob for Secure {
         match secure(alloc, &bundle, &plan, &ring, &suite) {
             Ok(made) => whole_bundle(alloc, &made),
             Err(PlanFault::Refused { reason, at }) => plan_refused(alloc, reason, at),
-            Err(PlanFault::NoMemory) => Err(NoMemory),
+            Err(PlanFault::NoMemory) => Err(NoMemory::again()),
         }
     }
 }

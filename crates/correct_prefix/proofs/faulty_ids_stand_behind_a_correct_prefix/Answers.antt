@@ -1,5 +1,5 @@
-use Rattle.bp_bundle.proofs.Arguments.{TokenLaws}
-use Rattle.bp_bundle.proofs.SealedHeads.{SealLaws}
+use Rattle.bp_bundle.proofs.HeadsAsSpelled.{TokenLaws}
+use Rattle.correct_prefix.proofs.FaultyHead.{SealLaws}
 use Rattle.correct_prefix.proofs.Ids.{ids_before, ids_cut, ids_faulty}
 use Rattle.correct_prefix.proofs.faulty_ids_stand_behind_a_correct_prefix.Goals as goal
 

@@ -5,7 +5,8 @@ use Rattle.bp_eid.specs.declared.eid.Eid.{Eid}
 use Rattle.bp_primary.specs.Flags.{is_fragment}
 use Rattle.bp_primary.specs.declared.primary.Piece.{Piece}
 use Rattle.bp_primary.specs.declared.primary.Primary.{Primary}
-use Rattle.bp_build.specs.BuildText.{check_of, place_if, place_if_flag, primary_of}
+use Rattle.bp_crc.specs.Item.{check_of}
+use Rattle.bp_build.specs.BuildText.{place_if, place_if_flag, primary_of}
 use Rattle.bp_build.proofs.primary.primary_of.Goals as goal
 
 abbrev with_proof : (flags : ℕ) → CheckKind → Eid × Eid × Eid → ℕ × ℕ × ℕ → (fragment : Option Piece) → is_some fragment ≡ is_fragment flags → Primary
@@ -19,4 +20,4 @@ same flags crc kind nodes times place fragment checks is =
     ∙ ap (λ (k : CheckKind). with_proof flags k nodes times (place_if (is_fragment flags) place) (place_if_flag (is_fragment flags) place)) checks)
 
 pub returns : goal.returns
-returns c = same c.args.flags c.args.crc c.check_of.result c.args.nodes c.args.times c.args.place c.place_if.result c.check_of.ensures c.place_if.ensures _
+returns c = same c.args.flags c.args.crc c.of_number.result c.args.nodes c.args.times c.args.place c.place_if.result c.of_number.ensures c.place_if.ensures _

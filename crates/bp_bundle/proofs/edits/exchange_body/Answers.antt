@@ -1,5 +1,5 @@
 use Rattle.std.proofs.Common.{◌≡◌}
-use Rattle.bp_bundle.proofs.Changes.{with_body_of, body_written}
+use Rattle.bp_bundle.proofs.ChangedInPlace.{with_body_of, body_written}
 use Rattle.bp_bundle.proofs.edits.exchange_body.Goals as goal
 
 pub returns-clause-new : goal.returns-clause-new

@@ -1,7 +1,7 @@
 use Rattle.std.proofs.Common.{◌≡◌, ◌<◌, List, length, ap, sym, arith}
 use Rattle.bp_blocks.specs.declared.block.Block.{Block}
 use Rattle.bp_bundle.specs.Edits.{crc_if}
-use Rattle.bp_bundle.proofs.Changes.{step_by}
+use Rattle.bp_bundle.proofs.ChangedInPlace.{step_by}
 use Rattle.bp_bundle.proofs.edits.set_block_crc.Goals as goal
 
 pub loop-block-preserved : goal.loop-block-preserved

@@ -1,14 +1,10 @@
-use Rattle.std.proofs.Common.{◌≡◌, ◌+◌, ◌≤◌, List, [], ◌++◌, length, arith}
-use Rattle.bp_crc.specs.Item.{zeros}
-use Rattle.bp_primary.specs.Spelling as primaries
-use Rattle.bp_bundle.specs.Running.{Runs}
-use Rattle.bp_bundle.specs.FirstFault.{primary_check}
-use Rattle.bp_bundle.proofs.Checks.{fed_runs, primary_length}
+use Rattle.std.proofs.Common.{[], ◌∷◌, ◌∙◌, arith}
+use Rattle.bp_primary.proofs.Pieces.{length-spelling}
 use Rattle.bp_bundle.proofs.front.check_of.Goals as goal
 
 pub returns : goal.returns
 returns c =
-    let p = c.args.primary.now in
-    let room : 0 + length (primaries.array_with p (zeros p.crc)) ≤ 18446744073709551615 = omega (arith, primary_length p, c.size-size.ensures.size, c.size-size.ensures.within) in
-    c.finish.ensures p.crc (primaries.array_with p (zeros p.crc))
-    (fed_runs p.crc c.new-running.result c.feed_with.new.into [] (primaries.array_with p (zeros p.crc)) c.new-running.ensures (rw c.zeros.ensures.value at c.feed_with.ensures.stands) c.feed_with.ensures.fixed room)
+    let short = rw (length-spelling c.args.primary.now, ← c.zeros.ensures.value) at c.size-size.ensures.size in
+    let kind = c.what_is_fixed_names_the_kind.ensures _ _ c.feed_with.ensures.fixed ∙ c.new-checking.ensures.kind in
+    let check = c.finish.ensures _ (c.feed_with.ensures.stands [] c.new-checking.ensures.stands (omega (arith, c.size-size.ensures.within))) in
+    rw (kind, c.zeros.ensures.value) at check

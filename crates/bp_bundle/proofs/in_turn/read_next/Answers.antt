@@ -1,6 +1,6 @@
 use Rattle.std.proofs.Common.{Ok, Err, Result, Bool, ap, rules}
 use Rattle.bp_bundle.specs.declared.whole_input.InputFault.{InputFault}
-use Rattle.bp_bundle.proofs.InTurn.{filled, over_so, error_so, few_in_all, fed_here, whole_so, goes_on_so, fits_so, fault_so}
+use Rattle.bp_bundle.proofs.NextBundle.{filled, over_so, error_so, few_in_all, fed_here, has_whole, whole_so, goes_on_so, fits_so, fault_so}
 use Rattle.bp_bundle.proofs.in_turn.read_next.Goals as goal
 
 pub fill-requires : goal.fill-requires
@@ -18,7 +18,12 @@ returns-in-Err-clause-means g c =
 pub returns-then-fed-clause-means : goal.returns-then-fed-clause-means
 returns-then-fed-clause-means g c =
     let going = filled _ _ _ _ _ _ _ _ c.loop-reader.invariant.going c.fill.ensures.fills c.fill.ensures.few in
-    rw c.take.ensures (whole_so _ _ _ _ _ c.feed.new.self _ c.in-Ok.fed _ going (fed_here _ c.feed.new.self _ _ (Ok c.in-Ok.fed) c.held.ensures.held c.in-Ok.ensures.means) c.if-fed.true c.whole.ensures.means)
+    rw c.take.ensures (whole_so _ _ _ _ _ c.feed.new.self _ c.in-Ok.fed _ going (fed_here _ c.feed.new.self _ _ (Ok c.in-Ok.fed) c.held.ensures.held c.in-Ok.ensures.means) c.if-fed.true c.whole.ensures.shape c.whole.ensures.means)
+
+pub whole-requires : goal.whole-requires
+whole-requires g c =
+    let going = filled _ _ _ _ _ _ _ _ c.loop-reader.invariant.going c.fill.ensures.fills c.fill.ensures.few in
+    has_whole _ _ _ _ _ c.feed.new.self _ c.in-Ok.fed going (fed_here _ c.feed.new.self _ _ (Ok c.in-Ok.fed) c.held.ensures.held c.in-Ok.ensures.means) c.if-fed.true
 
 pub loop-reader-preserved : goal.loop-reader-preserved
 loop-reader-preserved g c =

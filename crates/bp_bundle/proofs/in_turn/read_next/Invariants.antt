@@ -1,7 +1,7 @@
 -- What was read so far waits or was taken, no bundle has ended in it, and no read failed.
 use Rattle.std.proofs.Common.{◌≡◌, ◌+◌, ◌-◌}
 use Rattle.cbor_profile.specs.declared.TheConstants.{BUNDLE_LIMIT}
-use Rattle.bp_bundle.proofs.InTurn.{Going}
+use Rattle.bp_bundle.proofs.NextBundle.{Going}
 use Rattle.bp_bundle.proofs.in_turn.read_next.Given as goal
 
 abbrev pub invariant-loop-reader : goal.invariant-loop-reader

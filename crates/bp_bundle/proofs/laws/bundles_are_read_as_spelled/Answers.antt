@@ -1,8 +1,8 @@
 use Rattle.std.proofs.Common.{refl, ◌∙◌, zero-add}
 use Rattle.bp_bundle.specs.FirstFault.{read_bundle}
-use Rattle.bp_bundle.proofs.PrimaryMeans.{Laws}
-use Rattle.bp_bundle.proofs.BlocksMeans.{bundle_means}
-use Rattle.bp_bundle.proofs.Again.{bundle_again}
+use Rattle.bp_bundle.proofs.ReadPrimaryIsSpelled.{Laws}
+use Rattle.bp_bundle.proofs.ReadBundleIsSpelled.{bundle_means}
+use Rattle.bp_bundle.proofs.SpelledIsRead.{bundle_again}
 use Rattle.bp_bundle.proofs.laws.bundles_are_read_as_spelled.Goals as goal
 
 pub returns-clause-again : goal.returns-clause-again

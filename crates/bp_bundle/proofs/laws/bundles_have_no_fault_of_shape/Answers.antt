@@ -1,4 +1,4 @@
-use Rattle.bp_bundle.proofs.Unfaulted.{bundle_no_fault}
+use Rattle.bp_bundle.proofs.NoFaultOfShape.{bundle_no_fault}
 use Rattle.bp_bundle.proofs.laws.bundles_have_no_fault_of_shape.Goals as goal
 
 pub returns : goal.returns

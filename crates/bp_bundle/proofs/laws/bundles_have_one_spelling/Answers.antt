@@ -3,7 +3,7 @@ use Rattle.bp_bundle.specs.Shape.{Contents}
 use Rattle.bp_bundle.specs.Spelling.{spelling}
 use Rattle.bp_bundle.specs.Tokens.{Cursor}
 use Rattle.bp_bundle.specs.FirstFault.{read_bundle}
-use Rattle.bp_bundle.proofs.Arguments.{here, ok_is}
+use Rattle.bp_bundle.proofs.HeadsAsSpelled.{here, ok_is}
 use Rattle.bp_bundle.proofs.laws.bundles_have_one_spelling.Goals as goal
 
 pub returns : goal.returns

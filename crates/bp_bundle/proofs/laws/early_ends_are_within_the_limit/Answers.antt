@@ -1,5 +1,5 @@
-use Rattle.bp_bundle.proofs.Bounds.{early_is_small}
-use Rattle.bp_bundle.proofs.Resuming.{early_place}
+use Rattle.bp_bundle.proofs.WithinTheLimit.{early_is_small}
+use Rattle.bp_bundle.proofs.StatesGoOn.{early_place}
 use Rattle.bp_bundle.proofs.laws.early_ends_are_within_the_limit.Goals as goal
 
 pub returns-clause-place : goal.returns-clause-place

@@ -3,7 +3,7 @@ use Rattle.bp_bundle.specs.Shape.{Contents}
 use Rattle.bp_bundle.specs.Spelling.{Spells, spelling}
 use Rattle.bp_bundle.specs.Tokens.{Cursor}
 use Rattle.bp_bundle.specs.FirstFault.{read_bundle, read_only, end_of_input}
-use Rattle.bp_bundle.proofs.Arguments.{bind_ok, ok_is}
+use Rattle.bp_bundle.proofs.HeadsAsSpelled.{bind_ok, ok_is}
 use Rattle.bp_bundle.proofs.laws.inputs_are_read_as_spelled.Goals as goal
 
 ended : (bundle found : Contents) (after : Cursor) (rest : List ℕ) → after.rest ≡ rest → end_of_input found after rest ≡ Ok bundle → (found ≡ bundle) × (rest ≡ [])

@@ -1,6 +1,6 @@
 use Rattle.std.proofs.Common.{refl, ◌∙◌}
 use Rattle.bp_bundle.specs.FirstFault.{read_bundle}
-use Rattle.bp_bundle.proofs.Growing.{GrowthLaws, bundle_grows, stays_ok, stays_err}
+use Rattle.bp_bundle.proofs.ReadingStays.{GrowthLaws, bundle_grows, stays_ok, stays_err}
 use Rattle.bp_bundle.proofs.laws.reading_stays_the_same.Goals as goal
 
 pub returns-clause-bundle : goal.returns-clause-bundle

@@ -1,6 +1,6 @@
 use Rattle.std.proofs.Common.{◌≡◌, ◌≤◌, length, Result, Err, arith}
 use Rattle.bp_eid.specs.Reading.{read_id}
-use Rattle.bp_bundle.proofs.Shorter.{id_fault_within}
+use Rattle.bp_bundle.proofs.LeftIsLess.{id_fault_within}
 use Rattle.bp_bundle.proofs.parts.id.Goals as goal
 
 pub overflow_add-result : goal.overflow_add-result

@@ -7,7 +7,7 @@ use Rattle.bp_bundle.specs.Tokens.{Cursor}
 use Rattle.bp_bundle.specs.FirstFault.{past, block_of}
 use Rattle.bp_bundle.specs.Step.{seen}
 use Rattle.bp_bundle.specs.Machine.{resume, Follows, Waits}
-use Rattle.bp_bundle.proofs.Following.{body_follows, body_waits, body_closes}
+use Rattle.bp_bundle.proofs.StepsFollow.{body_follows, body_waits, body_closes}
 use Rattle.bp_bundle.proofs.steps.at_body.Goals as goal
 
 pub returns-in-Ok : goal.returns-in-Ok
@@ -41,3 +41,9 @@ returns-in-Ok-absorbed c =
       subst (λ (there : Cursor). Follows (stages.Body block) (seen c.args.here) (stages.Tail closing) there) (sym c.past-in-Ok-absorbed.ensures) follows,
       omega (arith, ap (λ (b : Begun). length b.blocks) begun),
     )
+
+pub returns-in-Err : goal.returns-in-Err
+returns-in-Err c = c.out_of_memory.ensures _ _
+
+pub returns-in-Err-absorbed : goal.returns-in-Err-absorbed
+returns-in-Err-absorbed c = c.out_of_memory-in-Err-absorbed.ensures _ _

@@ -2,8 +2,8 @@ use Rattle.std.proofs.Common.{◌≡◌, ◌*◌, ◌-◌, ◌<◌, List, [], le
 use Rattle.bp_blocks.specs.declared.block.Block.{Block}
 use Rattle.bp_bundle.specs.Step.{Fails, seen}
 use Rattle.bp_bundle.specs.Machine.{resume}
-use Rattle.bp_bundle.proofs.Growing.{GrowthLaws}
-use Rattle.bp_bundle.proofs.Following.{front_follows, front_error}
+use Rattle.bp_bundle.proofs.ReadingStays.{GrowthLaws}
+use Rattle.bp_bundle.proofs.StepsFollow.{front_follows, front_error}
 use Rattle.bp_bundle.proofs.steps.at_front.Goals as goal
 
 pub stopped-requires : goal.stopped-requires

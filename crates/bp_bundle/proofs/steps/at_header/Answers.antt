@@ -4,8 +4,8 @@ use Rattle.bp_bundle.specs.FirstFault.{header_at}
 use Rattle.bp_bundle.specs.Step.{Fails, seen}
 use Rattle.bp_bundle.specs.Machine.{resume}
 use Rattle.bp_bundle.specs.declared.stage.Begun.{Begun}
-use Rattle.bp_bundle.proofs.Growing.{GrowthLaws}
-use Rattle.bp_bundle.proofs.Following.{header_follows, header_fails, header_few, header_small}
+use Rattle.bp_bundle.proofs.ReadingStays.{GrowthLaws}
+use Rattle.bp_bundle.proofs.StepsFollow.{header_follows, header_fails, header_few, header_small}
 use Rattle.bp_bundle.proofs.steps.at_header.Goals as goal
 
 pub opened-requires : goal.opened-requires

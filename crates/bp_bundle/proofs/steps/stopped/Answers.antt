@@ -1,14 +1,14 @@
 use Rattle.std.proofs.Common.{◌≡◌, List, ◌++◌, Result, Err}
 use Rattle.bp_bundle.specs.Step.{Fails, seen}
 use Rattle.bp_bundle.specs.Machine.{resume}
-use Rattle.bp_bundle.proofs.Growing.{GrowthLaws}
-use Rattle.bp_bundle.proofs.Resuming.{stops_for_good, waits_there, waits_so, same_follows}
+use Rattle.bp_bundle.proofs.ReadingStays.{GrowthLaws}
+use Rattle.bp_bundle.proofs.StatesGoOn.{stops_for_good, waits_there, same_follows}
 use Rattle.bp_bundle.proofs.steps.stopped.Goals as goal
 
 pub returns-in-Truncated : goal.returns-in-Truncated
 returns-in-Truncated c =
     let is : resume c.args.stage (seen c.args.here) ≡ Err c.in-Fault.fault = rw c.in-Fault.is at c.requires in
-    (same_follows c.args.stage (seen c.args.here), waits_so c.args.stage (seen c.args.here) (waits_there c.args.stage (seen c.args.here) c.in-Fault.fault is c.in-Truncated.is))
+    (same_follows c.args.stage (seen c.args.here), waits_there c.args.stage (seen c.args.here) c.in-Fault.fault is c.in-Truncated.is)
 
 pub returns-in_default : goal.returns-in_default
 returns-in_default c =

@@ -1,4 +1,4 @@
-use Rattle.bp_bundle.proofs.Shorter.{token_shorter}
+use Rattle.bp_bundle.proofs.LeftIsLess.{token_shorter}
 use Rattle.bp_bundle.proofs.token.argument.Goals as goal
 
 pub up_to-requires : goal.up_to-requires

@@ -1,7 +1,7 @@
 use Rattle.std.proofs.Common.{◌≡◌, ℕ, List, [], ◌++◌, length, ap, sym, ◌∙◌, arith}
 use Rattle.std.proofs.lemmas.List.{length-take}
 use Rattle.bp_bundle.specs.Spelling.{spelling}
-use Rattle.bp_bundle.proofs.WholeInputs.{piece_trails, next_trails, next_most, nothing_follows}
+use Rattle.bp_bundle.proofs.OneBundleInputs.{piece_trails, next_trails, next_most, nothing_follows}
 use Rattle.bp_bundle.proofs.whole_input.ended.Goals as goal
 
 pub returns-then-not-all-clause-means : goal.returns-then-not-all-clause-means

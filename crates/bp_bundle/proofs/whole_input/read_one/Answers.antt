@@ -1,6 +1,6 @@
 use Rattle.std.proofs.Common.{Ok, ap}
 use Rattle.bp_bundle.specs.declared.whole_input.Step.{Step}
-use Rattle.bp_bundle.proofs.WholeInputs.{loop_most, most_more, nearer, if_ok}
+use Rattle.bp_bundle.proofs.OneBundleInputs.{loop_most, most_more, nearer, if_ok}
 use Rattle.bp_bundle.proofs.whole_input.read_one.Goals as goal
 
 pub loop-reader-smaller : goal.loop-reader-smaller

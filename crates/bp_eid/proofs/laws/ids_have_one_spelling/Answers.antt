@@ -1,8 +1,8 @@
-use Rattle.bp_eid.proofs.Tokens.{HeadLaws}
+use Rattle.bp_eid.proofs.Tokens.{TokenLaws}
 use Rattle.bp_eid.proofs.Ids.{one_spelling}
 use Rattle.bp_eid.proofs.laws.ids_have_one_spelling.Goals as goal
 
 pub returns : goal.returns
 returns c = λ a b x y ha hb e.
-    let laws : HeadLaws = record { again = c.heads_are_read_as_spelled.ensures.again; means = c.heads_are_read_as_spelled.ensures.means } in
+    let laws : TokenLaws = record { again = c.tokens_are_read_as_spelled.ensures.again; means = c.tokens_are_read_as_spelled.ensures.means } in
     one_spelling laws a b x y ha hb e

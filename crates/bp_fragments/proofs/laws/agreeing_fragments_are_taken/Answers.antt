@@ -1,4 +1,4 @@
-use Rattle.bp_fragments.specs.Fragment.{payload}
+use Rattle.bp_bundle.specs.Shape.{payload}
 use Rattle.bp_fragments.specs.Agreement.{frame, gathered}
 use Rattle.bp_fragments.proofs.Adding.{accepted, agree_pushed}
 use Rattle.bp_fragments.proofs.Orders.{agreeing_taken}

@@ -9,7 +9,7 @@ loop-span-preserved c = record {
       c.in-Ok.ensures.within len before.0 before.1 (span_within c.args.spans.now c.loop-span.span-index len c.span-item.result all c.loop-span-test.true c.span-item.is);
 }
 
-pub returns-in-Ok-push-clause-within : goal.returns-in-Ok-push-clause-within
-returns-in-Ok-push-clause-within c = λ len all more.
+pub returns-in-Ok-append-clause-within : goal.returns-in-Ok-append-clause-within
+returns-in-Ok-append-clause-within c = λ len all more.
     let before = c.loop-span.invariant.within len all more in
-    rw c.in-Ok-push.ensures.ok (within_pushed c.loop-span.apart c.loop-span.whole len before.0 before.1)
+    rw c.in-Ok-append.ensures.ok (within_pushed c.loop-span.apart c.loop-span.whole len before.0 before.1)

@@ -7,7 +7,7 @@ use Rattle.bp_text.specs.declared.fault.TextError.TheVariants as errors
 use Rattle.bp_text.specs.Fault.{IsTextError}
 use Rattle.bp_text.specs.Names.{AreKnown}
 use Rattle.bp_text.specs.Entries.{entries_at, taken_by}
-use Rattle.bp_text.proofs.Entered.{with_front, left_at, read_by, taken_by-append, goes_on, stops}
+use Rattle.bp_text.proofs.EntriesInTurn.{with_front, left_at, read_by, taken_by-append, goes_on, stops}
 use Rattle.bp_text.proofs.entries.read_entries.Goals as goal
 
 -- an error of one step is that of all
@@ -43,6 +43,6 @@ loop-value-preserved g c =
       same = λ taken h.
           let gives = c.in-Ok.ensures.gives (now taken) (c.loop-value.invariant.known taken h) in
           let step = goes_on read c.loop-value.index (now taken) d (drop (i + 1) ds) c.loop-value.entries c.in-Ok.entry gives in
-          rw (c.in-Ok-push.ensures.ok, took taken) (step ∙ (ap (λ (rest : List Data). with_front c.loop-value.entries (entries_at read c.loop-value.index (now taken) rest)) (sym (left_at view values i value (omega arith) c.value-item.is))
+          rw (c.in-Ok-append.ensures.ok, took taken) (step ∙ (ap (λ (rest : List Data). with_front c.loop-value.entries (entries_at read c.loop-value.index (now taken) rest)) (sym (left_at view values i value (omega arith) c.value-item.is))
           ∙ c.loop-value.invariant.same taken h));
     }

@@ -2,7 +2,7 @@ use Rattle.std.proofs.Common.{◌≡◌, ◌+◌, ℕ, List, map, take, drop}
 use Rattle.serde_json.specs.View.{view}
 use Rattle.bp_text.specs.Names.{AreKnown}
 use Rattle.bp_text.specs.Entries.{entries_at, taken_by}
-use Rattle.bp_text.proofs.Entered.{with_front}
+use Rattle.bp_text.proofs.EntriesInTurn.{with_front}
 use Rattle.bp_text.proofs.entries.read_entries.Given as goal
 
 -- what was read and what is left give what all gives

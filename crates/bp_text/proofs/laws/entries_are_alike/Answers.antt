@@ -1,4 +1,4 @@
-use Rattle.bp_text.proofs.Named.{all_pass, all_named}
+use Rattle.bp_text.proofs.EntryNames.{all_pass, all_named}
 use Rattle.bp_text.proofs.laws.entries_are_alike.Goals as goal
 
 pub returns-clause-pass : goal.returns-clause-pass

@@ -1,4 +1,4 @@
-use Rattle.bp_text.proofs.Named.{first_fault}
+use Rattle.bp_text.proofs.EntryNames.{first_fault}
 use Rattle.bp_text.proofs.laws.faults_are_the_first.Goals as goal
 
 pub returns : goal.returns

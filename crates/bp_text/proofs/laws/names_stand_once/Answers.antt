@@ -1,4 +1,4 @@
-use Rattle.bp_text.proofs.Named.{all_are_read, names_once}
+use Rattle.bp_text.proofs.EntryNames.{all_are_read, names_once}
 use Rattle.bp_text.proofs.laws.names_stand_once.Goals as goal
 
 pub returns-clause-all : goal.returns-clause-all

@@ -3,7 +3,7 @@ use Rattle.std.specs.Prelude.{codes}
 use Rattle.std.specs.Fmt.{decimal}
 use Rattle.cbor_profile.specs.declared.fault.Fault.{Fault}
 use Rattle.bpsec_command.specs.Refusals.{broken_line}
-use Rattle.bpsec_command.specs.Reasons.{reason_name}
+use Rattle.cbor_profile.specs.Reasons.{reason_name}
 use Rattle.bpsec_command.proofs.refusals.broken_line.Goals as goal
 
 written : (number : ℕ) (fault : Fault) (name : List ℕ) → name ≡ reason_name fault.reason → codes "refused bundle bcb=" ++ (decimal number ++ (codes " place=" ++ (decimal fault.place ++ (codes " reason=" ++ (name ++ 10 ∷ []))))) ≡ broken_line number fault
@@ -11,4 +11,4 @@ unfolding broken_line
 written number fault name e = rw e (sym (simp append_assoc))
 
 pub returns : goal.returns
-returns c = c.in_ok-format.ensures.ok ∙ written c.args.block c.args.fault c.reason_name-reason.result.now c.reason_name-reason.ensures
+returns c = c.in_ok-format.ensures.ok ∙ written c.args.block c.args.fault c.name-reason.result.now c.name-reason.ensures

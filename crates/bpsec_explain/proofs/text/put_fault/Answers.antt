@@ -1,6 +1,7 @@
 use Rattle.std.proofs.Common.{List, ℕ, ◌++◌, ◌∙◌, append_assoc}
 use Rattle.std.specs.Prelude.{codes}
-use Rattle.bpsec_explain.specs.Texts.{newline, number, reason_name, fault_line}
+use Rattle.cbor_profile.specs.Reasons.{reason_name}
+use Rattle.bpsec_explain.specs.Texts.{newline, number, fault_line}
 use Rattle.bpsec_explain.proofs.Pieces.{two_pieces, last_piece, same_pieces}
 use Rattle.bpsec_explain.proofs.text.put_fault.Goals as goal
 

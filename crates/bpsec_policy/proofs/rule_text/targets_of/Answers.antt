@@ -34,4 +34,4 @@ loop-value-preserved c =
     let kinds = c.loop-value.kinds in
     let left = left_at view values i value (omega arith) c.value-item.is in
     let step = goes_on (view value) (drop (i + 1) (map view values)) kinds c.in-Ok.kind c.in-Ok.ensures in
-    rw c.in-Ok-push.ensures.ok (step ∙ (ap (λ (rest : List Data). with_front kinds (targets_of rest)) (sym left) ∙ c.loop-value.invariant))
+    rw c.in-Ok-append.ensures.ok (step ∙ (ap (λ (rest : List Data). with_front kinds (targets_of rest)) (sym left) ∙ c.loop-value.invariant))

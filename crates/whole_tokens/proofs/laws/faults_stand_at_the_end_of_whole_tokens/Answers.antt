@@ -1,5 +1,5 @@
 use Rattle.std.proofs.Common.{subst}
-use Rattle.bp_bundle.proofs.Arguments.{TokenLaws}
+use Rattle.bp_bundle.proofs.HeadsAsSpelled.{TokenLaws}
 use Rattle.whole_tokens.proofs.Bundles.{Answers, bundle_answers, input_answers}
 use Rattle.whole_tokens.proofs.laws.faults_stand_at_the_end_of_whole_tokens.Goals as goal
 

@@ -4,7 +4,7 @@ use Rattle.bp_blocks.specs.declared.block.Block.{Block}
 use Rattle.bp_bundle.specs.Shape.{Contents}
 use Rattle.bp_bundle.specs.Spelling.{IsBundle, spelling}
 use Rattle.bp_bundle.specs.Edits.{body_at}
-use Rattle.bp_bundle.proofs.Edited.{SameKeys, changed, keys_of_body, body_back, body_there}
+use Rattle.bp_bundle.proofs.EditsLeaveBundles.{SameKeys, changed, keys_of_body, body_back, body_there}
 use Rattle.bp_bundle.proofs.bundle.Bundle.replace_body.Goals as goal
 
 pub exchange_body-requires : goal.exchange_body-requires
@@ -33,5 +33,5 @@ invariant_of-self-2 c =
     let old : Contents = record { primary = c.self.inside.primary; blocks = c.self.inside.blocks } in
     let new : Contents = record { primary = c.self.inside.primary; blocks = c.exchange_body-old.new.blocks } in
     let same : SameKeys old.blocks new.blocks = rw c.exchange_body-old.ensures.new (keys_of_body c.args.index c.args.body old.blocks) in
-    let room : length (spelling new) ≤ BUNDLE_LIMIT = omega (arith, c.size_of-size.ensures.size, c.if-size-gt-BUNDLE_LIMIT.false) in
-    changed old new c.size_of-size.result c.self.invariant.0 same c.size_of-size.ensures.primary c.size_of-size.ensures.blocks c.size_of-size.ensures.size room
+    let room : length (spelling new) ≤ BUNDLE_LIMIT = omega (arith, rw c.items.ensures at c.spelled_size-size.ensures.size, c.if-size-gt-BUNDLE_LIMIT.false) in
+    changed old new c.spelled_size-size.result c.self.invariant.0 same c.spelled_size-size.ensures.primary (rw c.items.ensures at c.spelled_size-size.ensures.blocks) (rw c.items.ensures at c.spelled_size-size.ensures.size) room

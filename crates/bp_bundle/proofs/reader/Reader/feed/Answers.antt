@@ -1,5 +1,5 @@
 use Rattle.std.proofs.Common.{◌≡◌, ℕ, ◌+◌, ◌<◌, List, ◌++◌, length, refl, sym, ◌∙◌, ap, arith}
-use Rattle.bp_bundle.proofs.Taken.{BundleLaws, IsBytes, feeds_from, none_pending}
+use Rattle.bp_bundle.proofs.ReaderAnswers.{BundleLaws, IsBytes, feeds_from, none_pending}
 use Rattle.bp_bundle.proofs.reader.Reader.feed.Goals as goal
 
 pub returns-then-len-eq0-clause-means : goal.returns-then-len-eq0-clause-means

@@ -1,5 +1,5 @@
 use Rattle.std.proofs.Common.{◌≡◌, refl}
-use Rattle.bp_bundle.proofs.Taken.{begins}
+use Rattle.bp_bundle.proofs.ReaderAnswers.{begins}
 use Rattle.bp_bundle.proofs.reader.Reader.new.Goals as goal
 
 pub returns-clause-took : goal.returns-clause-took

@@ -1,4 +1,4 @@
-use Rattle.bp_bundle.proofs.InTurn.{taken_of}
+use Rattle.bp_bundle.proofs.NextBundle.{taken_of}
 use Rattle.bp_bundle.proofs.window.Window.take.Goals as goal
 
 pub returns-then-count-self : goal.returns-then-count-self

@@ -22,12 +22,12 @@ resulting-requires g c = λ discarded.
     let k : Finished = record { primary = c.primary.result.now; policy = c.self.inside.policy.now; blocks = c.blocks-3.result.now; held = c.items.result.now; stuck = c.items-2.result.now; done = c.items-3.result.now; verdicts = c.items-4.result.now } in
     let is : k ≡ ended (situation suite p) p.done c.self.inside.held c.self.inside.stuck =
     rw (c.items.ensures, c.items-2.ensures, c.items-3.ensures, c.items-4.ensures)
-    (ended_is (situation suite p) p.done _ _ _ _ _ _ _ c.self.invariant.kept none c.primary.result.now c.blocks-3.result.now c.primary.ensures c.blocks-3.ensures) in
+    (ended_is (situation suite p) p.done _ _ _ _ _ _ _ c.self.invariant.kept none c.primary.result.now c.blocks-3.result.now c.primary.ensures c.blocks-3.ensures.blocks) in
     let found : c.in_ok-events.events ≡ events (situation suite p) = c.in_ok-events.ensures ∙ ended_events (situation suite p) p.done _ _ _ _ _ _ _ c.self.invariant.kept none k is in
     let listed : c.items-5.result.now ≡ events (situation suite p) = c.items-5.ensures ∙ found in
     subst IsBundle (sym (ended_bundle (situation suite p) p.done _ _ _ _ _ _ _ c.self.invariant.kept none k c.items-5.result.now is listed))
     (ended_shape (situation suite p) p.done _ _ _ _ _ _ _ c.self.invariant.kept none (λ context key parameters results parts text. g.met.S.Suite.never_longer context key parameters results parts text)
-    (subst BodiesAreBytes c.blocks-2.ensures c.bodies_are_bytes.ensures) (ap is_discarded (sym listed) ∙ discarded))
+    (subst BodiesAreBytes c.blocks-2.ensures.blocks c.bodies_are_bytes.ensures) (ap is_discarded (sym listed) ∙ discarded))
 
 pub returns-clause-events : goal.returns-clause-events
 unfolding situation
@@ -38,7 +38,7 @@ returns-clause-events g c =
     let k : Finished = record { primary = c.primary.result.now; policy = c.self.inside.policy.now; blocks = c.blocks-3.result.now; held = c.items.result.now; stuck = c.items-2.result.now; done = c.items-3.result.now; verdicts = c.items-4.result.now } in
     let is : k ≡ ended (situation suite p) p.done c.self.inside.held c.self.inside.stuck =
     rw (c.items.ensures, c.items-2.ensures, c.items-3.ensures, c.items-4.ensures)
-    (ended_is (situation suite p) p.done _ _ _ _ _ _ _ c.self.invariant.kept none c.primary.result.now c.blocks-3.result.now c.primary.ensures c.blocks-3.ensures) in
+    (ended_is (situation suite p) p.done _ _ _ _ _ _ _ c.self.invariant.kept none c.primary.result.now c.blocks-3.result.now c.primary.ensures c.blocks-3.ensures.blocks) in
     let found : c.in_ok-events.events ≡ events (situation suite p) = c.in_ok-events.ensures ∙ ended_events (situation suite p) p.done _ _ _ _ _ _ _ c.self.invariant.kept none k is in
     rw (← c.self.view_is) found
 
@@ -51,7 +51,7 @@ returns-clause-bundle g c =
     let k : Finished = record { primary = c.primary.result.now; policy = c.self.inside.policy.now; blocks = c.blocks-3.result.now; held = c.items.result.now; stuck = c.items-2.result.now; done = c.items-3.result.now; verdicts = c.items-4.result.now } in
     let is : k ≡ ended (situation suite p) p.done c.self.inside.held c.self.inside.stuck =
     rw (c.items.ensures, c.items-2.ensures, c.items-3.ensures, c.items-4.ensures)
-    (ended_is (situation suite p) p.done _ _ _ _ _ _ _ c.self.invariant.kept none c.primary.result.now c.blocks-3.result.now c.primary.ensures c.blocks-3.ensures) in
+    (ended_is (situation suite p) p.done _ _ _ _ _ _ _ c.self.invariant.kept none c.primary.result.now c.blocks-3.result.now c.primary.ensures c.blocks-3.ensures.blocks) in
     let found : c.in_ok-events.events ≡ events (situation suite p) = c.in_ok-events.ensures ∙ ended_events (situation suite p) p.done _ _ _ _ _ _ _ c.self.invariant.kept none k is in
     let listed : c.items-5.result.now ≡ events (situation suite p) = c.items-5.ensures ∙ found in
     rw (← c.self.view_is)

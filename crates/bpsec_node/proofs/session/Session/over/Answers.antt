@@ -18,7 +18,7 @@ unreachable-requires g c =
     let there = subst (λ (p : Progress). Contains (ready (situation (meaning g.S.Suite.scope g.S.Suite.judged g.S.Suite.checked g.S.Suite.opened) p) p.done) c.args.op) (sym c.self.view_is) c.requires in
     let f = over_found _ _ _ _ _ _ _ _ _ c.self.invariant.kept c.args.op there in
     let e : false ≡ true = c.in-None.ensures.exact
-    ∙ (ap (λ (blocks : List Block). is_some (block_at blocks c.args.op.block) && is_readable (find_held c.items.result.now c.args.op.block)) c.blocks-2.ensures
+    ∙ (ap (λ (blocks : List Block). is_some (block_at blocks c.args.op.block) && is_readable (find_held c.items.result.now c.args.op.block)) c.blocks-2.ensures.blocks
     ∙ (ap (λ (held : List Held). is_some (block_at c.self.inside.shown.blocks c.args.op.block) && is_readable (find_held held c.args.op.block)) c.items.ensures ∙ f)) in
     absurd cc
 
@@ -29,7 +29,7 @@ returns-clause-site g c =
     rw (← c.self.view_is)
     (c.in-Some.ensures.site
     ∙ (ap (λ (p : Primary). record { primary = p; security = block_at c.blocks-2.result.now c.args.op.block; target = block_at c.blocks-2.result.now c.args.op.target }) c.primary.ensures
-    ∙ (ap (λ (b : List Block). record { primary = c.self.inside.shown.primary; security = block_at b c.args.op.block; target = block_at b c.args.op.target }) c.blocks-2.ensures
+    ∙ (ap (λ (b : List Block). record { primary = c.self.inside.shown.primary; security = block_at b c.args.op.block; target = block_at b c.args.op.target }) c.blocks-2.ensures.blocks
     ∙ over_site _ _ _ _ _ _ _ _ _ c.self.invariant.kept c.args.op there)))
 
 pub returns-clause-read : goal.returns-clause-read
@@ -37,7 +37,7 @@ unfolding situation
 returns-clause-read g c =
     let there = subst (λ (p : Progress). Contains (ready (situation (meaning g.S.Suite.scope g.S.Suite.judged g.S.Suite.checked g.S.Suite.opened) p) p.done) c.args.op) (sym c.self.view_is) c.requires in
     over_read _ _ _ _ _ _ _ _ _ c.self.invariant.kept c.args.op there c.in-Some.over.security.now c.in-Some.over.asb.now
-    (sym (ap (λ (b : List Block). block_at b c.args.op.block) c.blocks-2.ensures) ∙ sym (ap (λ (x : Site). x.security) c.in-Some.ensures.site))
+    (sym (ap (λ (b : List Block). block_at b c.args.op.block) c.blocks-2.ensures.blocks) ∙ sym (ap (λ (x : Site). x.security) c.in-Some.ensures.site))
     (sym (ap (λ (h : List Held). option_map (λ (one : Held). one.read) (find_held h c.args.op.block)) c.items.ensures) ∙ c.in-Some.ensures.read)
 
 pub returns-clause-small : goal.returns-clause-small
@@ -45,4 +45,4 @@ unfolding situation
 returns-clause-small g c = λ block is.
     let there = subst (λ (p : Progress). Contains (ready (situation (meaning g.S.Suite.scope g.S.Suite.judged g.S.Suite.checked g.S.Suite.opened) p) p.done) c.args.op) (sym c.self.view_is) c.requires in
     over_small _ _ _ _ _ _ _ _ _ c.self.invariant.kept c.args.op there block
-    (sym (ap (λ (b : List Block). block_at b c.args.op.target) c.blocks-2.ensures) ∙ (sym (ap (λ (x : Site). x.target) c.in-Some.ensures.site) ∙ is))
+    (sym (ap (λ (b : List Block). block_at b c.args.op.target) c.blocks-2.ensures.blocks) ∙ (sym (ap (λ (x : Site). x.target) c.in-Some.ensures.site) ∙ is))

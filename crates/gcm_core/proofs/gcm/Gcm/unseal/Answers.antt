@@ -8,7 +8,7 @@ use Rattle.gcm_core.proofs.gcm.Gcm.unseal.Goals as goal
 
 pub returns-then-right-clause-opened : goal.returns-then-right-clause-opened
 returns-then-right-clause-opened g c =
-    OnTrue_from c.is_same-right.result _
+    OnTrue_from c.same_bytes-right.result _
     (λ _. ciphered_from g.row.NK _ c.args.self c.args.iv.now c.first_block-first.result c.args.body.now c.run_counter_mode.new.body
     c.self.view_is c.first_block-first.ensures c.run_counter_mode.ensures)
 

@@ -1,8 +1,0 @@
-use Rattle.std.proofs.Common.{arith}
-use Rattle.gcm_core.proofs.TagLemmas.{difference_more}
-use Rattle.gcm_core.proofs.tag.is_same.Goals as goal
-
-pub loop-place-preserved : goal.loop-place-preserved
-loop-place-preserved c =
-    difference_more c.args.left.now c.args.right.now c.loop-place.difference c.loop-place.place (omega arith) (omega arith)
-    c.loop-place.invariant

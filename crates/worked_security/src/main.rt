@@ -1,0 +1,52 @@
+//! Tables of single calls of the crates of security blocks, of what operations cover, and of contexts.
+//! A line a table tells how many rows it has, and how many of them differ.
+#![tactic(auto)]
+
+mod confidentiality;
+mod integrity;
+mod security;
+
+use bp_outside::{FolderShelf, OutputSink};
+use std::alloc::Global;
+use std::process::ExitCode;
+use worked_tables::{Calls, Ended, Fields, Tables, Told, Trouble, names_of, run_calls, run_each};
+
+fn after_integrity(alloc: Global, call: &str, row: &mut Fields) -> Told {
+    confidentiality::told(alloc, call, row)
+}
+
+fn after_security(alloc: Global, call: &str, row: &mut Fields) -> Told {
+    match integrity::told(alloc, call, row) {
+        Ok(None) => after_integrity(alloc, call, row),
+        told => told,
+    }
+}
+
+/// The calls of this program.
+struct Own;
+
+impl Calls for Own {
+    fn told(alloc: Global, call: &str, row: &mut Fields) -> Told {
+        match security::told(alloc, call, row) {
+            Ok(None) => after_security(alloc, call, row),
+            told => told,
+        }
+    }
+}
+
+impl Tables for Own {
+    fn run(alloc: Global, name: &str, table: &str) -> Result<Ended, Trouble> {
+        run_calls::<Own>(alloc, name, table)
+    }
+}
+
+fn main(rt: HostRuntime) -> ExitCode {
+    let mut out = OutputSink::new(rt.stdout());
+    let Ok(names) = names_of(&rt) else {
+        return ExitCode::from(2);
+    };
+    let alloc = rt.alloc();
+    let mut shelf = FolderShelf::new(alloc, rt);
+    let same = run_each::<Own, _, _>(alloc, &mut shelf, names.as_slice(), &mut out);
+    ExitCode::from(if same { 0 } else { 1 })
+}
