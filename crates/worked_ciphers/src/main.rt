@@ -1,8 +1,9 @@
-//! Tables of single calls of the crates of ciphers: AES, GCM, HMAC and AES key wrap.
+//! Tables of single calls of the crates of ciphers: AES, GCM, HMAC, AES-CMAC and AES key wrap.
 //! A line a table tells how many rows it has, and how many of them differ.
 #![tactic(auto)]
 
 mod ciphers;
+mod cmac;
 mod gcm;
 
 use bp_outside::{FolderShelf, OutputSink};
@@ -10,13 +11,20 @@ use std::alloc::Global;
 use std::process::ExitCode;
 use worked_tables::{Calls, Ended, Fields, Tables, Told, Trouble, names_of, run_calls, run_each};
 
+fn after_ciphers(alloc: Global, call: &str, row: &mut Fields) -> Told {
+    match gcm::told(alloc, call, row) {
+        Ok(None) => cmac::told(alloc, call, row),
+        told => told,
+    }
+}
+
 /// The calls of this program.
 struct Own;
 
 impl Calls for Own {
     fn told(alloc: Global, call: &str, row: &mut Fields) -> Told {
         match ciphers::told(alloc, call, row) {
-            Ok(None) => gcm::told(alloc, call, row),
+            Ok(None) => after_ciphers(alloc, call, row),
             told => told,
         }
     }

@@ -1,0 +1,8 @@
+use Rattle.std.proofs.Common.{List, ℕ, ap, ◌∙◌}
+use Rattle.cmac_core.specs.Field.{times_x}
+use Rattle.cmac_core.specs.Cmac.{second_subkey}
+use Rattle.cmac_core.proofs.subkeys.second_subkey.Goals as goal
+
+pub returns : goal.returns
+unfolding second_subkey
+returns g c = c.times_x.ensures ∙ ap (λ (block : List ℕ). times_x block) c.first_subkey.ensures
