@@ -1,0 +1,3 @@
+pub mod StatusReport
+pub mod Reading
+pub mod Step
