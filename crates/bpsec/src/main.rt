@@ -4,13 +4,13 @@
 ghost use Rattle.std.specs.Prelude.{◌≡◌};
 ghost use Rattle.std.specs.Process.{exit_status};
 ghost use Rattle.bp_outside.specs.Outside.{Appended, Rose};
-ghost use Rattle.bpsec_command.specs.Refusals.{memory_fault};
-ghost use Rattle.bpsec_command.specs.Statuses.{code_of};
-ghost use Rattle.bpsec_command.specs.declared.status.Status.TheVariants.{NoMemory, WriteFault};
-ghost use Rattle.bpsec_command.specs.declared.status.Writing.TheVariants.{Report};
+ghost use Rattle.bpsec_answer.specs.Lines.{memory_fault};
+ghost use Rattle.bpsec_answer.specs.Statuses.{code_of};
+ghost use Rattle.bpsec_answer.specs.declared.status.Status.TheVariants.{NoMemory, WriteFault};
+ghost use Rattle.bpsec_answer.specs.declared.status.Writing.TheVariants.{Report};
 
 use bp_outside::{FolderShelf, InputSource, OutputSink, Sink, write_all};
-use bpsec_command::{Status, Writing, run};
+use bpsec_command::{Hindrance, Status, Writing, run};
 use std::process::ExitCode;
 use std::rt::Env;
 use std::{env, io};
@@ -23,10 +23,12 @@ fn words_of(rt: &(impl Env + AllocGlobal)) -> io::Result<Vec<String>> {
 
 /// How the program ends where no memory was left for its words: the report gets its line.
 fn end_without_words<R: Sink>(report: &mut R) -> Status
-    ensures written { result ≡ NoMemory → Appended (R.written report.old) memory_fault.report (R.written report.new) }
-    ensures fault { (result ≡ NoMemory → ⊥) → (result ≡ WriteFault Report) × Rose (R.faults report.old) (R.faults report.new) }
+    ensures written { result ≡ NoMemory
+        → Appended (R.written report.old) memory_fault.report (R.written report.new) }
+    ensures fault { (result ≡ NoMemory → ⊥)
+        → (result ≡ WriteFault Report) × Rose (R.faults report.old) (R.faults report.new) }
 {
-    match write_all(report, b"fault memory\n") {
+    match write_all(report, Hindrance::Memory.line().as_bytes()) {
         Ok(()) => Status::NoMemory,
         Err(_) => Status::WriteFault(Writing::Report),
     }

@@ -1,8 +1,5 @@
-mod Completeness
-mod Fetched
-mod Files
-mod Gathering
-mod Lines
-mod Noded
-mod Numbers
-mod Worlds
+mod LongFilesAreRefused
+mod NumberOfDigits
+mod RowsInTurn
+mod ToldWorldAnswers
+mod WhatIsDueIsTaken

@@ -1,13 +1,5 @@
-pub mod Words
-pub mod Reasons
-pub mod Refusals
-pub mod Done
-pub mod Reassembled
-pub mod NodeReport
-pub mod Noded
+pub mod Said
+pub mod Commands
+pub mod Grammar
+pub mod Rows
 pub mod Answer
-pub mod Due
-pub mod Delivery
-pub mod Statuses
-pub mod Slots
-pub mod Texts

@@ -1,14 +1,15 @@
 //! The third step: the input, read as one bundle and its end. Here alone are faults of the input.
 
-ghost use Rattle.std.specs.Prelude.{◌≡◌, ◌+◌, ℕ, [], List, IfOk, IfSome, IsErrOf};
+ghost use Rattle.std.specs.Prelude.{◌≡◌, ℕ, [], List, IfOk, IfSome, IsErrOf};
 ghost use Rattle.bp_outside.specs.Outside.{Rose};
 ghost use Rattle.bp_bundle.specs.FirstFault.{read_only};
 ghost use Rattle.bp_bundle.specs.WholeInput.{IsInput, TakesAtMost, most_taken};
-ghost use Rattle.bpsec_command.specs.declared.answer.Hindrance.{Hindrance};
+ghost use Rattle.bpsec_answer.specs.Riders.{NoInputFault, NoShelfFault, ReadsOn};
+ghost use Rattle.bpsec_answer.specs.declared.answer.Hindrance.{Hindrance};
 
-use crate::answer::Hindrance;
 use bp_bundle::{Bundle, InputFault, read_one};
 use bp_outside::Source;
+use bpsec_answer::Hindrance;
 use cbor_profile::Fault;
 use std::alloc::Global;
 
@@ -17,14 +18,16 @@ pub fn read_bundle<S: Source>(
     alloc: Global,
     input: &mut S,
 ) -> Result<Result<Bundle, Fault>, Hindrance>
-    ensures means { IfOk result (λ read. (bytes : List ℕ) × IsInput (S.left input.old) bytes
-        × (read ≡ read_only bytes)) }
-    ensures ended { IfOk result (λ read. IfOk read (λ _. IfSome (S.left input.new) (λ rest. rest ≡ []))) }
+    ensures means { IfOk result (λ read. (bytes : List ℕ)
+        × IsInput (S.left input.old) bytes × (read ≡ read_only bytes)) }
+    ensures ended { IfOk result (λ read. IfOk read
+        (λ _. IfSome (S.left input.new) (λ rest. rest ≡ []))) }
     ensures at_most { TakesAtMost most_taken (S.left input.old) (S.left input.new) }
-    ensures quiet { (IsErrOf result Hindrance.Input → ⊥) → S.faults input.new ≡ S.faults input.old }
-    ensures failed { IsErrOf result Hindrance.Input → Rose (S.faults input.old) (S.faults input.new) }
-    ensures no_shelf { IsErrOf result Hindrance.Shelf → ⊥ }
-    ensures reads_on { S.steady input.old → IsErrOf result Hindrance.Input → ⊥ }
+    ensures quiet { NoInputFault result → S.faults input.new ≡ S.faults input.old }
+    ensures failed { IsErrOf result Hindrance.Input
+        → Rose (S.faults input.old) (S.faults input.new) }
+    ensures no_shelf { NoShelfFault result }
+    ensures reads_on { ReadsOn (S.steady input.old) result }
 {
     match read_one(alloc, input) {
         Ok(bundle) => Ok(Ok(bundle)),

@@ -1,21 +1,16 @@
 //! The program, from its words to its status: `run` reads the words, fetches the named files, reads the input, does the
-//! job, and delivers the answer. Each command is a line of the grammar, a job of its own, and a case of the definition
-//! of the answer.
+//! job, and delivers the answer. Each command is a row of the grammar; its job and the definition of that stand in
+//! bpsec_jobs.
 #![tactic(auto)]
 
-mod answer;
-mod deliver;
+mod command;
+mod files;
+mod grammar;
 mod input;
-mod jobs;
 pub mod laws;
-mod node_report;
 mod program;
-mod reassemble;
-mod refusals;
 mod respond;
-mod status;
-mod texts;
-mod words;
+mod said;
 
+pub use bpsec_answer::{Hindrance, PiecesReason, Reading, Refused, Status, Writing};
 pub use program::run;
-pub use status::{PiecesReason, Reading, Refused, Status, Writing};

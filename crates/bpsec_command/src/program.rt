@@ -1,21 +1,20 @@
 //! The top call.
 
 ghost use Rattle.std.specs.Prelude.{◌≡◌, [], map, string_bytes, IfSome};
-ghost use Rattle.bpsec_command.specs.Answer.{job};
-ghost use Rattle.bpsec_command.specs.Refusals.{memory_fault};
-ghost use Rattle.bpsec_command.specs.declared.answer.Answer.{Answer};
-ghost use Rattle.bpsec_command.specs.Due.{IsDue, EndsWith, devices_of};
-ghost use Rattle.bpsec_command.specs.Delivery.{IsDelivered, Takes, sunk_of};
 ghost use Rattle.bp_bundle.specs.WholeInput.{TakesAtMost};
-ghost use Rattle.bpsec_command.specs.Statuses.{IsSuccess, IsRefusedEarly, IsFault};
-ghost use Rattle.bpsec_command.specs.Words.{ReadsInput, command_of, most_taken_for};
-ghost use Rattle.bpsec_command.specs.declared.status.Status.TheVariants.{WriteFault};
-ghost use Rattle.bpsec_command.specs.declared.status.Writing.TheVariants.{Out, Report};
+ghost use Rattle.bpsec_answer.specs.Delivery.{IsDelivered, Takes, sunk_of};
+ghost use Rattle.bpsec_answer.specs.Due.{IsDue, EndsWith, devices_of};
+ghost use Rattle.bpsec_answer.specs.Lines.{memory_fault};
+ghost use Rattle.bpsec_answer.specs.Statuses.{IsSuccess, IsRefusedEarly, IsFault};
+ghost use Rattle.bpsec_answer.specs.declared.answer.Answer.{Answer};
+ghost use Rattle.bpsec_answer.specs.declared.status.Status.TheVariants.{WriteFault};
+ghost use Rattle.bpsec_answer.specs.declared.status.Writing.TheVariants.{Out, Report};
+ghost use Rattle.bpsec_command.specs.Answer.{job};
+ghost use Rattle.bpsec_command.specs.Grammar.{ReadsInput, command_of, most_taken_for};
 
-use crate::deliver::deliver;
 use crate::respond::respond;
-use crate::status::Status;
 use bp_outside::{Shelf, Sink, Source};
+use bpsec_answer::{Status, deliver};
 use std::alloc::Global;
 
 /// Runs the program: from the words after its name, the input and the files, to what it writes and its status.
@@ -29,8 +28,8 @@ pub fn run<S: Source, K: Shelf, W: Sink, R: Sink>(
 ) -> Status
     // Something is due, and it is delivered: what is due is the answer to the words, or the line of a fault of the
     // input or the shelf, or of want of memory.
-    ensures answered { (due : Answer)
-        × IsDue (devices_of S.left S.faults K.files K.failed input.old input.new shelf.old shelf.new)
+    ensures answered { (due : Answer) × IsDue
+        (devices_of S.left S.faults K.files K.failed input.old input.new shelf.old shelf.new)
         (job (map string_bytes words.now)) due
         × IsDelivered due result
         (sunk_of W.written W.faults out.old out.new)
@@ -51,8 +50,8 @@ pub fn run<S: Source, K: Shelf, W: Sink, R: Sink>(
 
     // Nothing fails over steady devices whose sinks take what is due.
     ensures complete { S.steady input.old → K.steady shelf.old
-        → ((due : Answer)
-        → EndsWith (devices_of S.left S.faults K.files K.failed input.old input.new shelf.old shelf.new)
+        → ((due : Answer) → EndsWith
+        (devices_of S.left S.faults K.files K.failed input.old input.new shelf.old shelf.new)
         (job (map string_bytes words.now)) due
         → Takes (W.takes out.old) due.out × Takes (R.takes report.old) due.report)
         → Takes (R.takes report.old) memory_fault.report → IsFault result → ⊥ }
@@ -65,6 +64,12 @@ pub fn run<S: Source, K: Shelf, W: Sink, R: Sink>(
             out,
             report,
         ),
-        Err(hindrance) => deliver(hindrance.status(), &[], hindrance.line(), out, report),
+        Err(hindrance) => deliver(
+            hindrance.status(),
+            &[],
+            hindrance.line().as_bytes(),
+            out,
+            report,
+        ),
     }
 }

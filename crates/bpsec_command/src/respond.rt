@@ -1,54 +1,60 @@
-//! From the words, the files and the input to the answer, all of it made in memory.
+//! From the words, the files and the input to the answer, all of it made in memory: a function for each shape of work.
 
-ghost use Rattle.std.specs.Prelude.{◌≡◌, ◌*◌, [], codes, map, string_bytes, IfOk, IfSome, IsErrOf};
-ghost use Rattle.bpsec_command.specs.Answer.{Answered, Read, on_bundle, with_text, job};
-ghost use Rattle.bpsec_command.specs.Refusals.{text_refused};
-ghost use Rattle.bp_bundle.specs.FirstFault.{read_only};
-ghost use Rattle.bpsec_policy.specs.RingText.{ring_of};
-ghost use Rattle.bpsec_command.specs.declared.status.Status.TheVariants.{RingRefused};
-ghost use Rattle.bpsec_command.specs.Due.{IsDue, devices_of, due_of};
+ghost use Rattle.std.specs.Prelude.{◌≡◌, ◌*◌, map, string_bytes};
 ghost use Rattle.bp_bundle.specs.WholeInput.{TakesAtMost, most_taken};
 ghost use Rattle.bp_bundle.specs.BackToBack.{most_for_one};
-ghost use Rattle.bpsec_command.specs.Reassembled.{reassembled};
-ghost use Rattle.bpsec_command.specs.Words.{ReadsInput, command_of, most_taken_for};
-ghost use Rattle.bpsec_command.specs.Statuses.{IsSuccess, IsRefusedEarly, IsFault};
-ghost use Rattle.bpsec_command.specs.declared.answer.Hindrance.{Hindrance};
+ghost use Rattle.bpsec_answer.specs.Due.{IsDue, devices_of, due_of};
+ghost use Rattle.bpsec_answer.specs.Riders.{Ended, FetchesOn, NoFault, NoInputFault, NoOutput};
+ghost use Rattle.bpsec_answer.specs.Riders.{NoShelfFault, NotEarly, ReadsOn, Unread};
+ghost use Rattle.bpsec_jobs.specs.Reassembled.{reassembled};
+ghost use Rattle.bpsec_jobs.specs.Work.{of_bundle, of_fragments, of_text, of_text_and_ring};
+ghost use Rattle.bpsec_jobs.specs.Work.{of_text_and_ring_alone};
+ghost use Rattle.bpsec_jobs.specs.Work.{ring_name, with_bundle, with_ring};
+ghost use Rattle.bpsec_command.specs.Answer.{job};
+ghost use Rattle.bpsec_command.specs.Grammar.{ReadsInput, command_of, most_taken_for};
+ghost use Rattle.bpsec_command.specs.Said.{of_nothing};
 
-use crate::answer::{Answer, Hindrance};
+use crate::command::Command;
+use crate::files::read_named;
+use crate::grammar::read_words;
 use crate::input::read_bundle;
-use crate::jobs::build::Build;
-use crate::jobs::check::Check;
-use crate::jobs::explain::Explain;
-use crate::jobs::fragment::Fragment;
-use crate::jobs::node::Node;
-use crate::jobs::secure::Secure;
-use crate::jobs::upgrade::Upgrade;
-use crate::jobs::{BundleJob, KeyedJob, TextJob};
-use crate::reassemble::reassemble;
-use crate::refusals::{bundle_refused, text_refused, usage};
-use crate::texts::read_text;
-use crate::words::{Command, read_words};
+use crate::said::{help, said, version};
 use bp_outside::{Shelf, Source};
+use bpsec_answer::{Answer, Hindrance, Status, refusal};
+use bpsec_jobs::{
+    Build, BundleJob, Check, Explain, Fragment, KeyedJob, Node, RingJob, Secure, TextJob, Upgrade,
+    bundle_refused, reassemble, text_refused,
+};
 use bpsec_policy::KeyRing;
+use bpsec_reports::{PlanAudit, PolicyAudit, StatusReport};
 use std::alloc::Global;
+
+/// The place of the word that names a text.
+const TEXT: usize = 2;
+
+/// The place of the word that names a key ring.
+const RING: usize = 4;
 
 /// Reads one bundle and the end of the input, and does the job on it.
 fn on_bundle<S: Source, K: Shelf, J: BundleJob>(
     alloc: Global,
+    words: &[String],
     input: &mut S,
     shelf: &K,
     job: &J,
 ) -> Result<Answer, Hindrance>
-    ensures due { IsDue (devices_of S.left S.faults K.files K.failed input.old input.new shelf.now shelf.now)
-        (Read (λ bytes. Answered (on_bundle (J.answer_to job.now) (read_only bytes)))) (due_of result) }
-    ensures no_fault { IfOk result (λ answer. IsFault answer.status → ⊥) }
-    ensures no_output { IfOk result (λ answer. (IsSuccess answer.status → ⊥) → answer.out ≡ []) }
-    ensures not_early { IfOk result (λ answer. IsRefusedEarly answer.status → ⊥) }
-    ensures ended { IfOk result (λ answer. IsSuccess answer.status → IfSome (S.left input.new) (λ rest. rest ≡ [])) }
+    ensures due { IsDue
+        (devices_of S.left S.faults K.files K.failed input.old input.new shelf.now shelf.now)
+        ((of_bundle (J.answer_to job.now)).job (map string_bytes words.now)) (due_of result) }
+    ensures no_fault { NoFault result }
+    ensures no_output { NoOutput result }
+    ensures not_early { NotEarly result }
+    ensures ended { Ended result (S.left input.new) }
     ensures at_most { TakesAtMost most_taken (S.left input.old) (S.left input.new) }
-    ensures reads_on { S.steady input.old → IsErrOf result Hindrance.Input → ⊥ }
-    ensures no_shelf { IsErrOf result Hindrance.Shelf → ⊥ }
+    ensures reads_on { ReadsOn (S.steady input.old) result }
+    ensures no_shelf { NoShelfFault result }
 {
+    let _ = words;
     let _ = shelf;
     let answer = match read_bundle(alloc, input)? {
         Ok(bundle) => job.answer(alloc, bundle)?,
@@ -57,27 +63,81 @@ fn on_bundle<S: Source, K: Shelf, J: BundleJob>(
     Ok(answer)
 }
 
+/// Says these lines. No file is fetched, and the input isn't read.
+fn on_nothing<S: Source, K: Shelf>(
+    alloc: Global,
+    words: &[String],
+    input: &S,
+    shelf: &K,
+    lines: &[&str],
+) -> Result<Answer, Hindrance>
+    ensures due { IsDue
+        (devices_of S.left S.faults K.files K.failed input.now input.now shelf.now shelf.now)
+        ((of_nothing (map (λ text. text.now) lines.now)).job (map string_bytes words.now))
+        (due_of result) }
+    ensures no_fault { NoFault result }
+    ensures no_output { NoOutput result }
+    ensures no_input { NoInputFault result }
+    ensures no_shelf { NoShelfFault result }
+{
+    let _ = words;
+    let _ = input;
+    let _ = shelf;
+    Ok(said(alloc, lines)?)
+}
+
 /// Fetches a file, reads it as a text, and does the job on that. The input isn't read.
 fn on_text<S: Source, K: Shelf, J: TextJob>(
     alloc: Global,
+    words: &[String],
     input: &S,
     shelf: &mut K,
-    name: &str,
     job: &J,
 ) -> Result<Answer, Hindrance>
-    ensures due { IsDue (devices_of S.left S.faults K.files K.failed input.now input.now shelf.old shelf.new)
-        (with_text J.Text.reads (text_refused J.Text.ends J.Text.told_as) name.now
-        (λ text. Answered (J.answer_to job.now text))) (due_of result) }
-    ensures no_fault { IfOk result (λ answer. IsFault answer.status → ⊥) }
-    ensures no_output { IfOk result (λ answer. (IsSuccess answer.status → ⊥) → answer.out ≡ []) }
+    ensures due { IsDue
+        (devices_of S.left S.faults K.files K.failed input.now input.now shelf.old shelf.new)
+        ((of_text J.Text.reads J.Text.ends (J.answer_to job.now)).job (map string_bytes words.now))
+        (due_of result) }
+    ensures no_fault { NoFault result }
+    ensures no_output { NoOutput result }
     ensures files { K.files shelf.new ≡ K.files shelf.old }
-    ensures fetches_on { K.steady shelf.old → IsErrOf result Hindrance.Shelf → ⊥ }
-    ensures no_input { IsErrOf result Hindrance.Input → ⊥ }
+    ensures fetches_on { FetchesOn (K.steady shelf.old) result }
+    ensures no_input { NoInputFault result }
 {
     let _ = input;
-    let answer = match read_text(alloc, shelf, name)? {
+    let answer = match read_named(alloc, words, TEXT, shelf)? {
         Ok(text) => job.answer(alloc, text)?,
         Err(fault) => text_refused::<J::Text>(alloc, fault)?,
+    };
+    Ok(answer)
+}
+
+/// Fetches a text and then a key ring, and does the job on both. The input isn't read.
+fn on_text_and_ring_alone<S: Source, K: Shelf, J: RingJob>(
+    alloc: Global,
+    words: &[String],
+    input: &S,
+    shelf: &mut K,
+    job: &J,
+) -> Result<Answer, Hindrance>
+    ensures due { IsDue
+        (devices_of S.left S.faults K.files K.failed input.now input.now shelf.old shelf.new)
+        ((of_text_and_ring_alone J.Text.reads J.Text.ends (J.answer_to job.now)).job
+        (map string_bytes words.now)) (due_of result) }
+    ensures no_fault { NoFault result }
+    ensures no_output { NoOutput result }
+    ensures files { K.files shelf.new ≡ K.files shelf.old }
+    ensures fetches_on { FetchesOn (K.steady shelf.old) result }
+    ensures no_input { NoInputFault result }
+{
+    let _ = input;
+    let text = match read_named(alloc, words, TEXT, shelf)? {
+        Ok(text) => text,
+        Err(fault) => return Ok(text_refused::<J::Text>(alloc, fault)?),
+    };
+    let answer = match read_named(alloc, words, RING, shelf)? {
+        Ok(ring) => job.answer(alloc, text, ring)?,
+        Err(fault) => text_refused::<KeyRing>(alloc, fault)?,
     };
     Ok(answer)
 }
@@ -85,26 +145,26 @@ fn on_text<S: Source, K: Shelf, J: TextJob>(
 /// Fetches a key ring, reads one bundle and the end of the input, and does the job on both and a text.
 fn on_ring<S: Source, K: Shelf, J: KeyedJob>(
     alloc: Global,
+    words: &[String],
     input: &mut S,
     shelf: &mut K,
-    keys: &str,
     text: J::Text,
     job: &J,
 ) -> Result<Answer, Hindrance>
-    ensures due { IsDue (devices_of S.left S.faults K.files K.failed input.old input.new shelf.old shelf.new)
-        (with_text ring_of (text_refused RingRefused (codes "keys")) keys.now
-        (λ ring. Read (λ bytes. Answered (on_bundle (J.answer_to job.now text ring) (read_only bytes)))))
-        (due_of result) }
-    ensures no_fault { IfOk result (λ answer. IsFault answer.status → ⊥) }
-    ensures no_output { IfOk result (λ answer. (IsSuccess answer.status → ⊥) → answer.out ≡ []) }
-    ensures ended { IfOk result (λ answer. IsSuccess answer.status → IfSome (S.left input.new) (λ rest. rest ≡ [])) }
-    ensures unread { IfOk result (λ answer. IsRefusedEarly answer.status → input.new ≡ input.old) }
+    ensures due { IsDue
+        (devices_of S.left S.faults K.files K.failed input.old input.new shelf.old shelf.new)
+        (with_ring (ring_name (map string_bytes words.now))
+        (λ ring. with_bundle (J.answer_to job.now text ring))) (due_of result) }
+    ensures no_fault { NoFault result }
+    ensures no_output { NoOutput result }
+    ensures ended { Ended result (S.left input.new) }
+    ensures unread { Unread result input.old input.new }
     ensures at_most { TakesAtMost most_taken (S.left input.old) (S.left input.new) }
     ensures files { K.files shelf.new ≡ K.files shelf.old }
-    ensures reads_on { S.steady input.old → IsErrOf result Hindrance.Input → ⊥ }
-    ensures fetches_on { K.steady shelf.old → IsErrOf result Hindrance.Shelf → ⊥ }
+    ensures reads_on { ReadsOn (S.steady input.old) result }
+    ensures fetches_on { FetchesOn (K.steady shelf.old) result }
 {
-    let ring: KeyRing = match read_text(alloc, shelf, keys)? {
+    let ring: KeyRing = match read_named(alloc, words, RING, shelf)? {
         Ok(ring) => ring,
         Err(fault) => return Ok(text_refused::<KeyRing>(alloc, fault)?),
     };
@@ -118,28 +178,26 @@ fn on_ring<S: Source, K: Shelf, J: KeyedJob>(
 /// Fetches a text and then a key ring, reads one bundle and the end of the input, and does the job on them.
 fn on_text_and_ring<S: Source, K: Shelf, J: KeyedJob>(
     alloc: Global,
+    words: &[String],
     input: &mut S,
     shelf: &mut K,
-    name: &str,
-    keys: &str,
     job: &J,
 ) -> Result<Answer, Hindrance>
-    ensures due { IsDue (devices_of S.left S.faults K.files K.failed input.old input.new shelf.old shelf.new)
-        (with_text J.Text.reads (text_refused J.Text.ends J.Text.told_as) name.now
-        (λ text. with_text ring_of (text_refused RingRefused (codes "keys")) keys.now
-        (λ ring. Read (λ bytes. Answered (on_bundle (J.answer_to job.now text ring) (read_only bytes))))))
-        (due_of result) }
-    ensures no_fault { IfOk result (λ answer. IsFault answer.status → ⊥) }
-    ensures no_output { IfOk result (λ answer. (IsSuccess answer.status → ⊥) → answer.out ≡ []) }
-    ensures ended { IfOk result (λ answer. IsSuccess answer.status → IfSome (S.left input.new) (λ rest. rest ≡ [])) }
-    ensures unread { IfOk result (λ answer. IsRefusedEarly answer.status → input.new ≡ input.old) }
+    ensures due { IsDue
+        (devices_of S.left S.faults K.files K.failed input.old input.new shelf.old shelf.new)
+        ((of_text_and_ring J.Text.reads J.Text.ends (J.answer_to job.now)).job
+        (map string_bytes words.now)) (due_of result) }
+    ensures no_fault { NoFault result }
+    ensures no_output { NoOutput result }
+    ensures ended { Ended result (S.left input.new) }
+    ensures unread { Unread result input.old input.new }
     ensures at_most { TakesAtMost most_taken (S.left input.old) (S.left input.new) }
     ensures files { K.files shelf.new ≡ K.files shelf.old }
-    ensures reads_on { S.steady input.old → IsErrOf result Hindrance.Input → ⊥ }
-    ensures fetches_on { K.steady shelf.old → IsErrOf result Hindrance.Shelf → ⊥ }
+    ensures reads_on { ReadsOn (S.steady input.old) result }
+    ensures fetches_on { FetchesOn (K.steady shelf.old) result }
 {
-    match read_text(alloc, shelf, name)? {
-        Ok(text) => on_ring(alloc, input, shelf, keys, text, job),
+    match read_named(alloc, words, TEXT, shelf)? {
+        Ok(text) => on_ring(alloc, words, input, shelf, text, job),
         Err(fault) => Ok(text_refused::<J::Text>(alloc, fault)?),
     }
 }
@@ -147,19 +205,22 @@ fn on_text_and_ring<S: Source, K: Shelf, J: KeyedJob>(
 /// Reads the fragments of the input, and joins them.
 fn on_fragments<S: Source, K: Shelf>(
     alloc: Global,
+    words: &[String],
     input: &mut S,
     shelf: &K,
 ) -> Result<Answer, Hindrance>
-    ensures due { IsDue (devices_of S.left S.faults K.files K.failed input.old input.new shelf.now shelf.now)
-        (Read (λ bytes. Answered (reassembled bytes))) (due_of result) }
-    ensures no_fault { IfOk result (λ answer. IsFault answer.status → ⊥) }
-    ensures no_output { IfOk result (λ answer. (IsSuccess answer.status → ⊥) → answer.out ≡ []) }
-    ensures not_early { IfOk result (λ answer. IsRefusedEarly answer.status → ⊥) }
-    ensures ended { IfOk result (λ answer. IsSuccess answer.status → IfSome (S.left input.new) (λ rest. rest ≡ [])) }
+    ensures due { IsDue
+        (devices_of S.left S.faults K.files K.failed input.old input.new shelf.now shelf.now)
+        ((of_fragments reassembled).job (map string_bytes words.now)) (due_of result) }
+    ensures no_fault { NoFault result }
+    ensures no_output { NoOutput result }
+    ensures not_early { NotEarly result }
+    ensures ended { Ended result (S.left input.new) }
     ensures at_most { TakesAtMost (257 * most_for_one) (S.left input.old) (S.left input.new) }
-    ensures reads_on { S.steady input.old → IsErrOf result Hindrance.Input → ⊥ }
-    ensures no_shelf { IsErrOf result Hindrance.Shelf → ⊥ }
+    ensures reads_on { ReadsOn (S.steady input.old) result }
+    ensures no_shelf { NoShelfFault result }
 {
+    let _ = words;
     let _ = shelf;
     reassemble(alloc, input)
 }
@@ -171,37 +232,53 @@ pub fn respond<S: Source, K: Shelf>(
     input: &mut S,
     shelf: &mut K,
 ) -> Result<Answer, Hindrance>
-    ensures due { IsDue (devices_of S.left S.faults K.files K.failed input.old input.new shelf.old shelf.new)
+    ensures due { IsDue
+        (devices_of S.left S.faults K.files K.failed input.old input.new shelf.old shelf.new)
         (job (map string_bytes words.now)) (due_of result) }
-    ensures no_fault { IfOk result (λ answer. IsFault answer.status → ⊥) }
-    ensures no_output { IfOk result (λ answer. (IsSuccess answer.status → ⊥) → answer.out ≡ []) }
-    ensures ended { IfOk result (λ answer. IsSuccess answer.status → ReadsInput (map string_bytes words.now)
-        → IfSome (S.left input.new) (λ rest. rest ≡ [])) }
-    ensures unread { IfOk result (λ answer. IsRefusedEarly answer.status → input.new ≡ input.old) }
+    ensures no_fault { NoFault result }
+    ensures no_output { NoOutput result }
+    ensures ended { ReadsInput (map string_bytes words.now) → Ended result (S.left input.new) }
+    ensures unread { Unread result input.old input.new }
     ensures unread_words { (ReadsInput (map string_bytes words.now) → ⊥) → input.new ≡ input.old }
     ensures at_most { TakesAtMost (most_taken_for (command_of (map string_bytes words.now)))
         (S.left input.old) (S.left input.new) }
     ensures files { K.files shelf.new ≡ K.files shelf.old }
-    ensures reads_on { S.steady input.old → IsErrOf result Hindrance.Input → ⊥ }
-    ensures fetches_on { K.steady shelf.old → IsErrOf result Hindrance.Shelf → ⊥ }
+    ensures reads_on { ReadsOn (S.steady input.old) result }
+    ensures fetches_on { FetchesOn (K.steady shelf.old) result }
 {
     match read_words(words) {
-        Ok(Command::Check) => on_bundle(alloc, input, shelf, &Check),
-        Ok(Command::Explain) => on_bundle(alloc, input, shelf, &Explain),
-        Ok(Command::Build { text }) => on_text(alloc, input, shelf, text, &Build),
-        Ok(Command::Upgrade { policy }) => on_text(alloc, input, shelf, policy, &Upgrade),
-        Ok(Command::Secure { plan, keys }) => {
-            on_text_and_ring(alloc, input, shelf, plan, keys, &Secure)
+        Ok(Command::Check) => on_bundle(alloc, words, input, shelf, &Check),
+        Ok(Command::Explain) => on_bundle(alloc, words, input, shelf, &Explain),
+        Ok(Command::Build) => on_text(alloc, words, input, shelf, &Build),
+        Ok(Command::Upgrade) => on_text(alloc, words, input, shelf, &Upgrade),
+        Ok(Command::Secure) => on_text_and_ring(alloc, words, input, shelf, &Secure),
+        Ok(Command::Fragment { size }) => {
+            on_bundle(alloc, words, input, shelf, &Fragment { size })
         }
-        Ok(Command::Fragment { size }) => on_bundle(alloc, input, shelf, &Fragment { size }),
-        Ok(Command::Reassemble) => on_fragments(alloc, input, shelf),
+        Ok(Command::Reassemble) => on_fragments(alloc, words, input, shelf),
+        Ok(Command::Node { order }) => {
+            on_text_and_ring(alloc, words, input, shelf, &Node { order })
+        }
         Ok(
-            Command::Node {
-                policy,
-                keys,
+            Command::Status {
                 order,
+                time,
+                sequence,
             },
-        ) => on_text_and_ring(alloc, input, shelf, policy, keys, &Node { order }),
-        Err(word) => Ok(usage(alloc, word)?),
+        ) => {
+            let job = StatusReport {
+                order,
+                time,
+                sequence,
+            };
+            on_text_and_ring(alloc, words, input, shelf, &job)
+        }
+        Ok(Command::AuditPolicy) => {
+            on_text_and_ring_alone(alloc, words, input, shelf, &PolicyAudit)
+        }
+        Ok(Command::AuditPlan) => { on_text_and_ring_alone(alloc, words, input, shelf, &PlanAudit) }
+        Ok(Command::Help) => on_nothing(alloc, words, input, shelf, &help()),
+        Ok(Command::Version) => on_nothing(alloc, words, input, shelf, &version()),
+        Err(word) => Ok(refusal(alloc, Status::Usage { word })?),
     }
 }

@@ -4,9 +4,10 @@ use Rattle.std.proofs.lemmas.List.{get_or-map, length-map, map-append, map_more}
 use Rattle.bp_blocks.specs.declared.block.Block.{Block}
 use Rattle.bpsec_plan.specs.declared.item.Item.{Item}
 use Rattle.bpsec_secure.specs.declared.sealing.Tag.{Tag}
-use Rattle.bpsec_secure.specs.Facts.{Facts}
+use Rattle.bpsec_facts.specs.Facts.{Facts}
 use Rattle.bpsec_secure.specs.Tags.{tag_of_block, AreTags}
-use Rattle.bpsec_secure.specs.Secured.{block_left, plain_block, plain_blocks, sealed, kept, finished, added}
+use Rattle.bpsec_facts.specs.Left.{block_left}
+use Rattle.bpsec_secure.specs.Secured.{plain_block, plain_blocks, sealed, kept, finished, added}
 
 -- the tags of both lists are those of all blocks
 pub tags_are : (facts : Facts) (none first both : List Tag) (old new : List Block) → none ≡ [] → old ≡ map (block_left facts) facts.blocks → new ≡ map (plain_block facts) facts.items → first ≡ none ++ map (tag_of_block facts) old → both ≡ first ++ map (tag_of_block facts) new → AreTags facts both

@@ -8,14 +8,12 @@ use Rattle.bpsec_context.specs.Values.{number_of, content_of}
 use Rattle.bpsec_context.specs.Pairs.{given, value_at, read_by, is_malformed, bytes_of, has_length, wrapped_lengths, vector_lengths, wrapped_key}
 use Rattle.bpsec_context.specs.Integrity as integrity
 use Rattle.bpsec_context.specs.Confidentiality as confidentiality
-use Rattle.bpsec_secure.specs.Refusal.{words_of}
+use Rattle.bpsec_facts.specs.Refusal.{words_of}
+use Rattle.bpsec_facts.proofs.Numbers.{NumbersAgain, number_given}
 use Rattle.bpsec_secure.specs.Parameters.{hmac_parameters, gcm_parameters}
 use Rattle.bpsec_secure.specs.Secured.{hmac_of}
 
 -- the laws of values
-abbrev pub NumbersAgain : Type 0
-NumbersAgain = (n : ℕ) → n < 2 ^ 64 → number_of (uint n) ≡ Some n
-
 abbrev pub StringsAgain : Type 0
 StringsAgain = (content : List ℕ) → length content < 2 ^ 64 → content_of (byte_string content) ≡ Some content
 
@@ -61,9 +59,6 @@ gcm_flags_at vector variant None flags = refl
 gcm_flags_at vector variant (Some wrapped) flags = refl
 
 -- ---- as they are read
-
-pub number_given : NumbersAgain → (id n : ℕ) (pairs : List Pair) → n < 2 ^ 64 → value_at id pairs ≡ Ok (Some (uint n)) → given number_of id pairs ≡ Ok (Some n)
-number_given law id n pairs small at = rw (at, law n small) refl
 
 abbrev pub Fits : Option (List ℕ) → Type 0
 Fits None = Unit {0}

@@ -7,7 +7,7 @@ use Rattle.aes_core.specs.KeyExpansion.{IsKey, IsKeySize}
 use Rattle.key_wrap.specs.KeyWrap.{IsWrappable, Registers, registers, initial_value, wrap, unwrap}
 use Rattle.bpsec_context.specs.Keys.{unwrapped, working_key, refuses}
 use Rattle.bpsec_context.specs.Pairs.{has_length, wrapped_lengths}
-use Rattle.bpsec_secure.specs.Refusal.{is_wrappable, is_wrapping}
+use Rattle.bpsec_facts.specs.Refusal.{is_wrappable, is_wrapping}
 use Rattle.bpsec_secure.specs.Parameters.{wrapped_under}
 
 -- the laws of key_wrap

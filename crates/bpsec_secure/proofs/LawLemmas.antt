@@ -13,15 +13,17 @@ use Rattle.bp_bundle.specs.Spelling.{spelling}
 use Rattle.bpsec_policy.specs.declared.ring.NamedKey.{NamedKey}
 use Rattle.bpsec_plan.specs.declared.item.Item.{Item}
 use Rattle.bpsec_plan.specs.declared.item.Item.TheVariants.{Bib, Bcb, Split}
-use Rattle.bpsec_secure.specs.declared.reason.Refusal.{Refusal}
-use Rattle.bpsec_secure.specs.Items.{block_number, is_cipher, is_in, targets_of, is_target}
+use Rattle.bpsec_facts.specs.declared.reason.Refusal.{Refusal}
+use Rattle.bpsec_facts.specs.Items.{block_number, is_cipher, is_in, targets_of, is_target}
 use Rattle.bpsec_secure.specs.Laws.{is_split}
-use Rattle.bpsec_secure.specs.Facts.{Facts, facts_of}
-use Rattle.bpsec_secure.specs.declared.reason.PlanReason.TheVariants.{TooLong}
-use Rattle.bpsec_secure.specs.Refusal.{first_at, nowhere}
-use Rattle.bpsec_secure.specs.Secured.{header_of, splits_from, seals, sealed, body_left, block_left, primary_left, kept, added, before_last, secured}
-use Rattle.bpsec_secure.specs.Answer.{or_next, refusal, secured_bundle}
-use Rattle.bpsec_secure.proofs.Passed.{here_not}
+use Rattle.bpsec_facts.specs.Facts.{Facts, facts_of}
+use Rattle.bpsec_facts.specs.declared.reason.PlanReason.TheVariants.{TooLong}
+use Rattle.bpsec_facts.specs.Refusal.{first_at, nowhere}
+use Rattle.bpsec_facts.specs.Left.{header_of, splits_from, body_left, block_left, primary_left, before_last}
+use Rattle.bpsec_secure.specs.Secured.{seals, sealed, kept, added, secured}
+use Rattle.bpsec_facts.specs.Answer.{or_next}
+use Rattle.bpsec_secure.specs.Answer.{refusal, secured_bundle}
+use Rattle.bpsec_facts.proofs.Chains.{here_not}
 use Rattle.bpsec_secure.proofs.ShapeLemmas.{kept_number, added_number}
 
 -- ---- what stays

@@ -3,12 +3,10 @@ pub mod KeyLemmas
 pub mod Given
 pub mod SigningLemmas
 pub mod SealingLemmas
-pub mod Found
 pub mod InPlace
 pub mod TagLemmas
 pub mod Passed
 pub mod LongLemmas
 pub mod ShapeLemmas
-pub mod AnswerLemmas
 pub mod AddedLemmas
 pub mod LawLemmas

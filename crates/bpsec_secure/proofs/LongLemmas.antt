@@ -4,38 +4,22 @@ use Rattle.std.specs.Prelude.{Option, Some, None, nat_lt}
 use Rattle.std.specs.List.{list_any, flat_map}
 use Rattle.std.proofs.lemmas.Bool.{or_parts, ltb-true, ltb-false, lt-ltb}
 use Rattle.std.proofs.lemmas.List.{length-append, take-append-drop}
-use Rattle.std.proofs.lemmas.List.Folds.{list_any-append, length-flat_map-take}
+use Rattle.std.proofs.lemmas.List.Folds.{list_any-append}
 use Rattle.gcm_core.proofs.SizeLemmas.{length-ciphered}
 use Rattle.cbor_profile.specs.declared.TheConstants.{BUNDLE_LIMIT}
-use Rattle.cbor_profile.specs.Put.{byte_string}
 use Rattle.bp_blocks.specs.declared.block.Block.{Block}
 use Rattle.bp_blocks.specs.Spelling as canonical
 use Rattle.bp_bundle.specs.Shape.{Contents}
-use Rattle.bp_bundle.specs.Spelling.{IsBundle, spelling}
+use Rattle.bp_bundle.specs.Spelling.{spelling}
 use Rattle.bpsec_context.specs.Calls.{Protected}
 use Rattle.bpsec_scope.specs.declared.header.Header.{Header}
 use Rattle.bpsec_plan.specs.declared.item.Item.{Item}
 use Rattle.bpsec_plan.specs.declared.item.Item.TheVariants.{Bib, Bcb, Split}
-use Rattle.bpsec_secure.specs.Facts.{Facts}
-use Rattle.bpsec_secure.specs.Usable.{is_long, AreShort}
-use Rattle.bpsec_secure.specs.Secured.{header_of, new_header, primary_left, sealed_parts, block_cipher, protected, with_tag, body_sealed, sealed_by, sealing_item, sealed, block_left, plain_block, new_block, kept, added, before_last, secured}
-
--- ---- a block is longer than its body
-
-longer : (block : Block) → length block.body ≤ length (canonical.spelling block)
-unfolding canonical.spelling canonical.array_with byte_string
-longer block = simp length-append (omega arith)
-
--- one of the blocks has so many bytes at least
-bodies_fit : (blocks : List Block) (k : ℕ) (d : Block) → k < length blocks → length (get_or blocks k d).body ≤ length (flat_map canonical.spelling blocks)
-bodies_fit blocks k d within = omega (arith, longer (get_or blocks k d), length-flat_map-take canonical.spelling blocks k d within)
-
-spelled_longer : (bundle : Contents) → length (flat_map canonical.spelling bundle.blocks) ≤ length (spelling bundle)
-unfolding spelling
-spelled_longer bundle = simp length-append (omega arith)
-
-pub bundle_short : (bundle : Contents) → IsBundle bundle → AreShort bundle.blocks
-bundle_short bundle is = λ k d within. omega (arith, is.within, bodies_fit bundle.blocks k d within, spelled_longer bundle)
+use Rattle.bpsec_facts.specs.Facts.{Facts}
+use Rattle.bpsec_facts.specs.Left.{is_long, AreShort}
+use Rattle.bpsec_facts.proofs.ShortLemmas.{longer, spelled_longer}
+use Rattle.bpsec_facts.specs.Left.{header_of, new_header, primary_left, block_left, new_block, before_last}
+use Rattle.bpsec_secure.specs.Secured.{sealed_parts, block_cipher, protected, with_tag, body_sealed, sealed_by, sealing_item, sealed, plain_block, kept, added, secured}
 
 -- ---- blocks that aren't long
 

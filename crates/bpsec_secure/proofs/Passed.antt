@@ -9,30 +9,13 @@ use Rattle.bpsec_policy.specs.Ring.{is_named_key, is_ring}
 use Rattle.bpsec_plan.specs.declared.item.Item.{Item}
 use Rattle.bpsec_plan.specs.declared.item.Item.TheVariants.{Bib, Bcb, Split}
 use Rattle.bpsec_plan.specs.Items.{is_item, is_plan, is_cover, is_integrity_variant, is_cipher_variant}
-use Rattle.bpsec_secure.specs.declared.reason.PlanReason.{PlanReason}
-use Rattle.bpsec_secure.specs.declared.reason.PlanReason.TheVariants as reasons
-use Rattle.bpsec_secure.specs.declared.reason.Refusal.{Refusal}
-use Rattle.bpsec_secure.specs.Facts.{Facts}
-use Rattle.bpsec_secure.specs.Refusal.{at_or, first_at, first_item, first_of, early_refusal, item_reasons, too_many, nowhere, key_length, number_taken, key_named, words_of, cover_cannot_wrap, unreadable, bad_split}
+use Rattle.bpsec_facts.specs.declared.reason.PlanReason.{PlanReason}
+use Rattle.bpsec_facts.specs.declared.reason.PlanReason.TheVariants as reasons
+use Rattle.bpsec_facts.specs.declared.reason.Refusal.{Refusal}
+use Rattle.bpsec_facts.specs.Facts.{Facts}
+use Rattle.bpsec_facts.specs.Refusal.{at_or, first_at, first_item, first_of, early_refusal, item_reasons, too_many, nowhere, key_length, number_taken, key_named, words_of, cover_cannot_wrap, unreadable, bad_split}
+use Rattle.bpsec_facts.proofs.Chains.{at_none, of_none, of_end, if_none, here_not}
 use Rattle.bpsec_secure.specs.Usable.{IsUsable}
-
--- ---- none of a chain
-
-at_none : (reason : PlanReason) (at : Option ℕ) (next : Option Refusal) → at_or reason at next ≡ None → (at ≡ None) × (next ≡ None)
-at_none reason None next none = (refl, none)
-at_none reason (Some at) next none = absurd cc
-
-of_none : (facts : Facts) (reason : PlanReason) (more : List PlanReason) (next : Option Refusal) → first_of facts (reason ∷ more) next ≡ None → (first_item facts reason ≡ None) × (first_of facts more next ≡ None)
-unfolding first_of
-of_none facts reason more next none = at_none reason (first_item facts reason) (first_of facts more next) none
-
-of_end : (facts : Facts) (next : Option Refusal) → first_of facts [] next ≡ None → next ≡ None
-unfolding first_of
-of_end facts next none = none
-
-if_none : (b : Bool) (refusal : Refusal) (next : Option Refusal) → cond b (Some refusal) next ≡ None → (b ≡ false) × (next ≡ None)
-if_none true refusal next none = absurd cc
-if_none false refusal next none = (refl, none)
 
 -- what is used of it
 pub record Passed (facts : Facts) : Type 0 where
@@ -71,10 +54,6 @@ passed facts none =
     chain facts c.1
 
 -- ---- each item
-
-pub here_not : (b : Bool) (n : ℕ) (next : Option ℕ) → cond b (Some n) next ≡ None → (b ≡ false) × (next ≡ None)
-here_not true n next none = absurd cc
-here_not false n next none = (refl, none)
 
 -- a reason that doesn't look at the items before
 each_not : (holds : Item → Bool) (before items : List Item) → first_at (λ earlier item. holds item) before items ≡ None → (k : ℕ) (d : Item) → k < length items → holds (get_or items k d) ≡ false

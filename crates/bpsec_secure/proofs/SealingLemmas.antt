@@ -12,8 +12,9 @@ use Rattle.bpsec_context.specs.Confidentiality as confidentiality
 use Rattle.bpsec_policy.specs.declared.ring.NamedKey.{NamedKey}
 use Rattle.bpsec_plan.specs.declared.item.Cover.{Cover}
 use Rattle.bpsec_plan.specs.Items.{is_cipher_variant}
-use Rattle.bpsec_secure.specs.Refusal.{words_of}
-use Rattle.bpsec_secure.specs.Parameters.{key_of_cover, wrapped_key, outer_key, flags_of, gcm_parameters, cipher_parameters}
+use Rattle.bpsec_facts.specs.Refusal.{words_of}
+use Rattle.bpsec_facts.specs.Left.{key_of_cover, flags_of}
+use Rattle.bpsec_secure.specs.Parameters.{wrapped_key, outer_key, gcm_parameters, cipher_parameters}
 use Rattle.bpsec_secure.specs.Usable.{Ciphers}
 use Rattle.bpsec_secure.specs.Secured.{protected}
 use Rattle.bpsec_secure.proofs.KeyLemmas.{AreBytes}

@@ -9,12 +9,14 @@ use Rattle.bpsec_context.specs.Integrity as integrity
 use Rattle.bpsec_policy.specs.declared.ring.NamedKey.{NamedKey}
 use Rattle.bpsec_plan.specs.declared.item.Cover.{Cover}
 use Rattle.bpsec_plan.specs.Items.{is_integrity_variant}
-use Rattle.bpsec_secure.specs.Refusal.{key_named, cannot_wrap, is_wrappable, is_wrapping}
-use Rattle.bpsec_secure.specs.Parameters.{key_of_cover, wrapped_by, wrapped_key, outer_key_by, outer_key, flags_of, wrapped_under, hmac_parameters, integrity_parameters}
+use Rattle.bpsec_facts.specs.Refusal.{key_named, cannot_wrap, is_wrappable, is_wrapping}
+use Rattle.bpsec_facts.specs.Left.{key_of_cover, flags_of}
+use Rattle.bpsec_secure.specs.Parameters.{wrapped_by, wrapped_key, outer_key_by, outer_key, wrapped_under, hmac_parameters, integrity_parameters}
 use Rattle.bpsec_secure.specs.Usable.{HasKeys, Signs}
 use Rattle.bpsec_secure.specs.Secured.{code_of, hmac_of}
 use Rattle.bpsec_secure.proofs.KeyLemmas.{Unwraps, Longer, AreBytes, not_refused, works, wrapped_fits, length-wrapped}
-use Rattle.bpsec_secure.proofs.Given.{NumbersAgain, StringsAgain, Fits, OneOf, hmac_flags_of, hmac_wrapped_of, hmac_by, hmac_well_formed}
+use Rattle.bpsec_facts.proofs.Numbers.{NumbersAgain}
+use Rattle.bpsec_secure.proofs.Given.{StringsAgain, Fits, OneOf, hmac_flags_of, hmac_wrapped_of, hmac_by, hmac_well_formed}
 
 -- the laws of the layers below
 pub record Laws : Type 0 where

@@ -2,8 +2,8 @@
 use Rattle.std.proofs.Common.{◌≡◌, ℕ, ◌==◌, Bool, true, false, List, [], ◌∷◌, map, refl, ap, ◌∙◌}
 use Rattle.bp_blocks.specs.declared.block.Block.{Block}
 use Rattle.bpsec_secure.specs.declared.sealing.Tag.{Tag}
-use Rattle.bpsec_secure.specs.Facts.{Facts}
-use Rattle.bpsec_secure.specs.Refusal.{block_at}
+use Rattle.bpsec_facts.specs.Facts.{Facts}
+use Rattle.bpsec_facts.specs.Refusal.{block_at}
 use Rattle.bpsec_secure.specs.Secured.{tag_from, plain_blocks}
 use Rattle.bpsec_secure.specs.Tags.{tag_of_block, AreTags, tag_at}
 

@@ -1,8 +1,3 @@
-pub mod Items
-pub mod Bibs
-pub mod Facts
-pub mod View
-pub mod Refusal
 pub mod Parameters
 pub mod Usable
 pub mod Secured

@@ -1,26 +1,16 @@
 -- The parameters of the new blocks: RFC 9173, sections 3.3 and 4.3. Each list is in the order of the ids, with the variant and
 -- the scope flags always there.
-use Rattle.std.specs.Prelude.{ℕ, ◌/◌, ◌%◌, List, [], ◌∷◌, ◌++◌, length, Option, Some, None}
-use Rattle.cbor_profile.specs.Put.{uint, byte_string}
+use Rattle.std.specs.Prelude.{ℕ, ◌/◌, List, [], ◌∷◌, ◌++◌, length, Option, Some, None}
 use Rattle.key_wrap.specs.KeyWrap.{wrap}
 use Rattle.bpsec_asb.specs.declared.asb.Pair.{Pair}
 use Rattle.bpsec_policy.specs.declared.ring.NamedKey.{NamedKey}
 use Rattle.bpsec_plan.specs.declared.item.Cover.{Cover}
-use Rattle.bpsec_secure.specs.Refusal.{key_named}
-
-abbrev pub number_pair : ℕ → ℕ → Pair
-number_pair id number = record { id = id; value = uint number }
-
-abbrev pub bytes_pair : ℕ → List ℕ → Pair
-bytes_pair id bytes = record { id = id; value = byte_string bytes }
+use Rattle.bpsec_facts.specs.Refusal.{key_named}
+use Rattle.bpsec_facts.specs.Left.{number_pair, bytes_pair, key_of_cover, flags_of}
 
 -- the key, wrapped under the key of this name (RFC 3394, section 2.2.1): AES with as many words as that key has
 unfoldable pub wrapped_under : List ℕ → List ℕ → List ℕ
 wrapped_under wrapping key = wrap (length wrapping / 4) wrapping key
-
--- the working key
-abbrev pub key_of_cover : List NamedKey → Cover → List ℕ
-key_of_cover ring cover = key_named ring cover.key
 
 abbrev pub wrapped_by : List NamedKey → List ℕ → Option (List ℕ) → Option (List ℕ)
 wrapped_by ring key None = None
@@ -34,10 +24,6 @@ wrapped_key ring cover = wrapped_by ring (key_of_cover ring cover) cover.wrapped
 abbrev pub wrapped_pair : ℕ → Option (List ℕ) → List Pair
 wrapped_pair id None = []
 wrapped_pair id (Some wrapped) = bytes_pair id wrapped ∷ []
-
--- the scope flags that have a meaning (RFC 9173, sections 3.3.3 and 4.3.4)
-abbrev pub flags_of : Cover → ℕ
-flags_of cover = cover.scope % 8
 
 -- BIB-HMAC-SHA2: SHA variant, wrapped key, integrity scope flags
 unfoldable pub hmac_parameters : ℕ → Option (List ℕ) → ℕ → List Pair

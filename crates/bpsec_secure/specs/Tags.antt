@@ -2,7 +2,7 @@
 use Rattle.std.specs.Prelude.{◌≡◌, ℕ, ◌==◌, List, [], map, find, Option, Some, None}
 use Rattle.bp_blocks.specs.declared.block.Block.{Block}
 use Rattle.bpsec_secure.specs.declared.sealing.Tag.{Tag}
-use Rattle.bpsec_secure.specs.Facts.{Facts}
+use Rattle.bpsec_facts.specs.Facts.{Facts}
 use Rattle.bpsec_secure.specs.Secured.{tag_over, plain_blocks}
 
 -- an entry for each block

@@ -7,8 +7,8 @@ use Rattle.bpsec_plan.specs.declared.item.Cover.{Cover}
 use Rattle.bpsec_plan.specs.declared.item.Item.{Item}
 use Rattle.bpsec_plan.specs.declared.item.Item.TheVariants.{Bib, Bcb, Split}
 use Rattle.bpsec_plan.specs.Items.{is_integrity_variant, is_cipher_variant}
-use Rattle.bpsec_secure.specs.Refusal.{words_of, cover_cannot_wrap}
-use Rattle.bpsec_secure.specs.Parameters.{key_of_cover}
+use Rattle.bpsec_facts.specs.Refusal.{words_of, cover_cannot_wrap}
+use Rattle.bpsec_facts.specs.Left.{key_of_cover}
 
 -- a key of a ring, which wraps or is wrapped where it must
 pub record HasKeys (ring : List NamedKey) (cover : Cover) : Type 0 where
@@ -30,11 +30,3 @@ abbrev pub IsUsable : List NamedKey → Item → Type 0
 IsUsable ring (Bib cover) = Signs ring cover
 IsUsable ring (Bcb cover iv shared_iv tag_in_body) = Ciphers ring cover iv
 IsUsable ring (Split split) = Unit {0}
-
--- a body that alone is longer than a bundle may be
-abbrev pub is_long : Block → Bool
-is_long block = nat_lt BUNDLE_LIMIT (length block.body)
-
--- bodies that the contexts take
-abbrev pub AreShort : List Block → Type 0
-AreShort blocks = All (λ block. length block.body ≤ 2 ^ 32) blocks

@@ -3,18 +3,17 @@
 ghost use Rattle.std.specs.Prelude.{◌≡◌, ◌==◌, ◌++◌, ◌∷◌, [], map, find, IfOk, OnOk, All};
 ghost use Rattle.std.specs.Option.{option_copied};
 ghost use Rattle.bpsec_asb.specs.SecurityBlock.{spelling};
-ghost use Rattle.bpsec_secure.specs.View.{facts};
+ghost use Rattle.bpsec_facts.specs.View.{facts};
 ghost use Rattle.bpsec_secure.specs.Usable.{Ciphers, IsUsable};
 ghost use Rattle.bpsec_secure.specs.Tags.{tag_at, AreTags};
-ghost use Rattle.bpsec_secure.specs.Secured.{plain_block, sealed, sealed_result, sealed_asb, finished, added, kept, before_last};
+ghost use Rattle.bpsec_facts.specs.Left.{before_last};
+ghost use Rattle.bpsec_secure.specs.Secured.{plain_block, sealed, sealed_result, sealed_asb, finished, added, kept};
 
-use crate::case::Case;
-use crate::parameters::{cipher_parameters, only_tag};
+use crate::parameters::cipher_parameters;
 use crate::sealing::Tag;
-use crate::signing::new_asb;
-use crate::splits::body_of;
 use bp_blocks::Block;
 use bpsec_asb::Pair;
+use bpsec_facts::{Case, before_last, body_of, new_asb, only_tag};
 use bpsec_plan::{Cover, Item};
 use cbor_profile::{Bytes, List, NoMemory};
 use std::alloc::Global;
@@ -159,20 +158,6 @@ fn added_blocks(
         add_finished(alloc, case, tags, item, &blocks[i], &mut new)?;
     }
     Ok(new)
-}
-
-/// The blocks with the new ones before the last.
-fn before_last(blocks: List<Block>, new: List<Block>) -> Result<List<Block>, NoMemory>
-    ensures { IfOk result (λ all. all ≡ before_last blocks new) }
-{
-    let mut all = blocks.into_vec();
-    let last = all.pop();
-    let mut new = new.into_vec();
-    all.append(&mut new)?;
-    if let Some(last) = last {
-        all.push(last)?;
-    }
-    Ok(List::of(all))
 }
 
 /// All blocks, of those that are sealed.

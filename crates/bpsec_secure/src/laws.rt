@@ -9,11 +9,12 @@ ghost use Rattle.bp_bundle.specs.Shape.{Contents};
 ghost use Rattle.bp_bundle.specs.Spelling.{spelling};
 ghost use Rattle.bpsec_policy.specs.declared.ring.NamedKey.{NamedKey};
 ghost use Rattle.bpsec_plan.specs.declared.item.Item.{Item};
-ghost use Rattle.bpsec_secure.specs.Items.{block_number, is_cipher, is_target};
+ghost use Rattle.bpsec_facts.specs.Items.{block_number, is_cipher, is_target};
 ghost use Rattle.bpsec_secure.specs.Laws.{is_split};
-ghost use Rattle.bpsec_secure.specs.Facts.{Facts, facts_of};
-ghost use Rattle.bpsec_secure.specs.Refusal.{first_at};
-ghost use Rattle.bpsec_secure.specs.Secured.{header_of, seals, splits_from, kept, added, before_last};
+ghost use Rattle.bpsec_facts.specs.Facts.{Facts, facts_of};
+ghost use Rattle.bpsec_facts.specs.Refusal.{first_at};
+ghost use Rattle.bpsec_facts.specs.Left.{header_of, splits_from, before_last};
+ghost use Rattle.bpsec_secure.specs.Secured.{seals, kept, added};
 ghost use Rattle.bpsec_secure.specs.Answer.{refusal, secured_bundle};
 
 /// A block that no item names stays as it is.

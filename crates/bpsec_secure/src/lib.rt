@@ -3,21 +3,11 @@
 #![tactic(auto)]
 
 mod adding;
-mod bibs;
-mod case;
-mod items;
-mod keys;
 pub mod laws;
-mod overlaps;
 mod parameters;
-mod reason;
-mod refusal;
 mod sealing;
 mod securing;
 mod signing;
-mod splits;
-mod table;
-mod targets;
 
-pub use reason::{PlanFault, PlanReason, Refusal};
+pub use bpsec_facts::{PlanFault, PlanReason, Refusal};
 pub use securing::secure;

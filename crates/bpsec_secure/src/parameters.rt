@@ -2,44 +2,19 @@
 
 ghost use Rattle.std.specs.Prelude.{◌≡◌, ◌<◌, ℕ, slice_index, ◌+◌, ◌*◌, ◌++◌, ◌∷◌, [], ◌≤◌, length, IsTrue, IfOk, OnOk};
 ghost use Rattle.aes_core.specs.KeyExpansion.{IsKeySize};
-ghost use Rattle.bpsec_context.specs.Calls.{only_tag};
-ghost use Rattle.bpsec_secure.specs.Refusal.{is_wrappable, is_wrapping};
-ghost use Rattle.bpsec_secure.specs.Parameters.{number_pair, bytes_pair, wrapped_under, wrapped_key, wrapped_pair, key_of_cover, integrity_parameters, cipher_parameters, outer_key, hmac_parameters, gcm_parameters};
+ghost use Rattle.bpsec_facts.specs.Refusal.{is_wrappable, is_wrapping};
+ghost use Rattle.bpsec_facts.specs.Left.{number_pair, bytes_pair, key_of_cover};
+ghost use Rattle.bpsec_secure.specs.Parameters.{wrapped_under, wrapped_key, wrapped_pair, integrity_parameters, cipher_parameters, outer_key, hmac_parameters, gcm_parameters};
 ghost use Rattle.bpsec_secure.specs.Usable.{HasKeys};
 
-use crate::keys::key_named;
 use aes_core::Aes;
 use bpsec_asb::Pair;
+use bpsec_facts::{add_bytes, add_number, key_named};
 use bpsec_plan::Cover;
 use bpsec_policy::KeyRing;
-use cbor_profile::{Bytes, List, NoMemory, put_bytes, put_uint};
+use cbor_profile::{List, NoMemory};
 use key_wrap::wrap_into;
 use std::alloc::Global;
-
-fn add_number(alloc: Global, id: u64, number: u64, pairs: &mut List<Pair>) -> Result<(), NoMemory>
-    ensures { OnOk result (pairs.new ≡ pairs.old ++ number_pair id number ∷ []) }
-{
-    let mut value = Bytes::new(alloc);
-    put_uint(&mut value, number)?;
-    pairs.append(Pair { id, value })
-}
-
-fn add_bytes(alloc: Global, id: u64, bytes: &[u8], pairs: &mut List<Pair>) -> Result<(), NoMemory>
-    ensures { OnOk result (pairs.new ≡ pairs.old ++ bytes_pair id bytes.now ∷ []) }
-{
-    let mut value = Bytes::new(alloc);
-    put_bytes(&mut value, bytes)?;
-    pairs.append(Pair { id, value })
-}
-
-/// The one result [1, tag].
-pub(crate) fn only_tag(alloc: Global, tag: &[u8]) -> Result<List<Pair>, NoMemory>
-    ensures { IfOk result (λ results. results ≡ only_tag tag.now) }
-{
-    let mut results = List::new(alloc);
-    add_bytes(alloc, 1, tag, &mut results)?;
-    Ok(results)
-}
 
 /// Wraps a key with a key of NK words. `out` has 8 bytes more than the key.
 #[tactic(auto, using(crate::proofs::Wrapping::wrapped_with))]

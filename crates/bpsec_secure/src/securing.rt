@@ -7,27 +7,29 @@ ghost use Rattle.bpsec_context.specs.Confidentiality as confidentiality;
 ghost use Rattle.bp_bundle.specs.Spelling.{IsBundle};
 ghost use Rattle.bpsec_policy.specs.Ring.{is_ring};
 ghost use Rattle.bpsec_plan.specs.Items.{is_plan};
-ghost use Rattle.bpsec_secure.specs.declared.reason.PlanReason.TheVariants.{TooLong};
-ghost use Rattle.bpsec_secure.specs.View.{facts};
-ghost use Rattle.bpsec_secure.specs.Usable.{IsUsable, AreShort, is_long};
-ghost use Rattle.bpsec_secure.specs.Refusal.{early_refusal, nowhere};
-ghost use Rattle.bpsec_secure.specs.Secured.{block_left, plain_block, secured};
-ghost use Rattle.bpsec_secure.specs.Answer.{long_refusal, or_next, refusal, secured_bundle, HasShape, Answers, IsFaultOf};
+ghost use Rattle.bpsec_facts.specs.declared.reason.PlanReason.TheVariants.{TooLong};
+ghost use Rattle.bpsec_facts.specs.View.{facts};
+ghost use Rattle.bpsec_facts.specs.Left.{AreShort, is_long};
+ghost use Rattle.bpsec_secure.specs.Usable.{IsUsable};
+ghost use Rattle.bpsec_facts.specs.Refusal.{early_refusal, nowhere};
+ghost use Rattle.bpsec_facts.specs.Left.{block_left};
+ghost use Rattle.bpsec_secure.specs.Secured.{plain_block, secured};
+ghost use Rattle.bpsec_facts.specs.Answer.{long_refusal, or_next, HasShape, Answers, IsFaultOf};
+ghost use Rattle.bpsec_secure.specs.Answer.{refusal, secured_bundle};
 
 use crate::adding::joined;
-use crate::bibs::{result_bibs, shown_bibs};
-use crate::case::Case;
-use crate::reason::{PlanFault, PlanReason, Refusal};
-use crate::refusal::early_refusal;
 use crate::sealing::seal_all;
 use crate::signing::new_blocks;
-use crate::splits::{blocks_left, primary_left};
 use bp_blocks::Block;
 use bp_bundle::Bundle;
 use bp_bundle::laws::bundles_have_no_fault_of_shape;
 use bp_primary::Primary;
 use bpsec_asb::operations;
 use bpsec_context::Suite;
+use bpsec_facts::{
+    Case, PlanFault, Refusal, blocks_left, bundle_of, early_refusal, primary_left, result_bibs,
+    shown_bibs, too_long,
+};
 use bpsec_plan::Plan;
 use bpsec_policy::KeyRing;
 use cbor_profile::{BUNDLE_LIMIT, List, NoMemory};
@@ -77,28 +79,6 @@ fn parts<S: Suite>(
     Ok(Some((primary, blocks)))
 }
 
-/// `TooLong`.
-fn too_long() -> Refusal
-    ensures { result ≡ nowhere TooLong }
-{
-    Refusal {
-        reason: PlanReason::TooLong,
-        at: None,
-    }
-}
-
-/// The bundle of parts that have no other fault of shape than that they are too long.
-fn bundle_of(primary: Primary, blocks: List<Block>) -> Result<Bundle, Refusal>
-    requires { HasShape (record { primary = primary; blocks = blocks }) }
-    ensures { Answers result (long_refusal (record { primary = primary; blocks = blocks }))
-        (record { primary = primary; blocks = blocks }) }
-{
-    match Bundle::of(primary, blocks) {
-        Ok(bundle) => Ok(bundle),
-        Err(_) => Err(too_long()),
-    }
-}
-
 /// The secured bundle, where no reason before `TooLong` holds.
 fn applied<S: Suite>(
     alloc: Global,
@@ -145,7 +125,7 @@ fn decided<S: Suite>(
 }
 
 /// The secured bundle, or the first reason against it, unless memory runs out.
-#[tactic(auto, unfolding(crate::specs::Facts::facts_of, crate::specs::Answer::refusal, crate::specs::Answer::secured_bundle))]
+#[tactic(auto, unfolding(bpsec_facts::specs::Facts::facts_of, crate::specs::Answer::refusal, crate::specs::Answer::secured_bundle))]
 fn answered<S: Suite>(
     alloc: Global,
     bundle: &Bundle,

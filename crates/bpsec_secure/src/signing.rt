@@ -1,121 +1,33 @@
 //! Steps 3 and 4: the new blocks, and the results of bib items.
 
 ghost use Rattle.std.specs.Prelude.{◌≡◌, ◌≤◌, ◌^◌, pos, map, take, length, IfOk, IfSome, IsFalse, All};
-ghost use Rattle.std.specs.Option.{option_copied};
 ghost use Rattle.bpsec_asb.specs.SecurityBlock.{spelling};
 ghost use Rattle.bpsec_scope.specs.View.{parts_of};
 ghost use Rattle.bpsec_scope.specs.Target.{target_of, is_sealed, body_of};
 ghost use Rattle.bpsec_context.specs.Integrity as integrity;
-ghost use Rattle.bpsec_secure.specs.View.{facts};
+ghost use Rattle.bpsec_facts.specs.View.{facts};
 ghost use Rattle.bpsec_secure.specs.Parameters.{integrity_parameters};
-ghost use Rattle.bpsec_secure.specs.Refusal.{block_at};
-ghost use Rattle.bpsec_secure.specs.Usable.{Signs, IsUsable, AreShort};
-ghost use Rattle.bpsec_secure.specs.Secured.{header_of, new_header, new_block, new_asb, primary_left, signed_parts, code_of, signed_result, signed_asb, plain_body, plain_block};
+ghost use Rattle.bpsec_facts.specs.Left.{AreShort};
+ghost use Rattle.bpsec_secure.specs.Usable.{Signs, IsUsable};
+ghost use Rattle.bpsec_facts.specs.Left.{primary_left};
+ghost use Rattle.bpsec_secure.specs.Secured.{code_of, signed_result, signed_asb, plain_body, plain_block};
 
-use crate::bibs::{copied, shown_at};
-use crate::case::Case;
-use crate::items::{block_check, block_flags, block_kind, block_number};
-use crate::parameters::{integrity_parameters, only_tag, outer_key};
-use crate::splits::{body_of, check_left, narrowed_body};
-use crate::targets::block_at;
+use crate::parameters::{integrity_parameters, outer_key};
 use bp_blocks::Block;
 use bp_primary::Primary;
-use bpsec_asb::{Asb, Pair};
+use bpsec_asb::Pair;
 use bpsec_context::Suite;
 use bpsec_context::laws::{byte_strings_are_read_as_spelled, numbers_are_read_as_spelled};
+use bpsec_facts::{
+    Case, body_of, copied, narrowed_body, new_asb, new_block, new_header, only_tag, short_block_at,
+    shown_at, signed_covered,
+};
 use bpsec_plan::{Cover, Item};
 use bpsec_policy::KeyRing;
-use bpsec_scope::{Covered, Header, TargetOf};
+use bpsec_scope::Covered;
 use cbor_profile::{Bytes, List, NoMemory};
 use key_wrap::laws::{unwrapping_undoes_wrapping, wrapped_keys_have_eight_bytes_more};
 use std::alloc::Global;
-
-pub(crate) fn header_of(block: &Block) -> Header
-    ensures { result ≡ header_of block.now }
-{
-    Header {
-        kind: block.kind,
-        number: block.number,
-        flags: block.flags,
-    }
-}
-
-pub(crate) fn new_header(item: &Item) -> Header
-    ensures { result ≡ new_header item.now }
-{
-    Header {
-        kind: block_kind(item),
-        number: block_number(item),
-        flags: block_flags(item),
-    }
-}
-
-/// The new block of an item, with this body.
-#[tactic(auto, unfolding(crate::specs::Secured::new_block))]
-fn new_block(case: &Case, item: &Item, body: Bytes) -> Block
-    ensures { result ≡ new_block (facts case.now) item.now body }
-{
-    let number = block_number(item);
-    Block {
-        kind: block_kind(item),
-        number,
-        flags: block_flags(item),
-        crc: check_left(case.items, number, block_check(item)),
-        body,
-    }
-}
-
-/// A security block of the context with this id, with parameters.
-pub(crate) fn new_asb(
-    alloc: Global,
-    context: i64,
-    cover: &Cover,
-    parameters: List<Pair>,
-    results: List<List<Pair>>,
-) -> Result<Asb, NoMemory>
-    ensures { IfOk result (λ asb. asb ≡ new_asb context cover.now parameters results) }
-{
-    Ok(Asb {
-        targets: copied(alloc, cover.targets.items())?,
-        context,
-        flags: 1,
-        source: cover.source.copy(alloc)?,
-        parameters: Some(parameters),
-        results,
-    })
-}
-
-/// The block of this number, whose body a context takes.
-fn short_block_at(blocks: &[Block], number: u64) -> Option<&Block>
-    requires { AreShort blocks.now }
-    ensures value { option_copied result ≡ block_at blocks.now number }
-    ensures short { IfSome (option_copied result) (λ block. length block.body ≤ 2 ^ 32) }
-{
-    block_at(blocks, number)
-}
-
-/// What a code covers: the primary block where there is no block.
-fn signed_covered<'a>(primary: &'a Primary, header: Header, block: Option<&'a Block>) -> Covered<'a>
-    ensures parts { parts_of result ≡ signed_parts primary.now header (option_copied block.entry) }
-    ensures unsealed { IsFalse (is_sealed (target_of result.target)) }
-    ensures short { IfSome (option_copied block.entry) (λ block. length block.body ≤ 2 ^ 32)
-        → length (body_of (target_of result.target)) ≤ 2 ^ 32 }
-{
-    match block {
-        Some(block) => Covered {
-            target: TargetOf::Body(block.body.as_slice()),
-            primary,
-            target_header: Some(header_of(block)),
-            security_header: header,
-        },
-        None => Covered {
-            target: TargetOf::Primary,
-            primary,
-            target_header: None,
-            security_header: header,
-        },
-    }
-}
 
 /// The code of a bib item over a target, at the front of `tag`, and its length.
 fn sign<S: Suite>(

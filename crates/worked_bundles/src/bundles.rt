@@ -1,13 +1,12 @@
 //! Calls of `bp_bundle` and `bpsec_explain`.
 
 use crate::blocks::{block_of, primary_of};
-use bp_bundle::{Bundle, Bundles, InputFault, InsertFault, Reader, laws, read_one};
-use bp_crc::CheckKind;
+use bp_bundle::{Bundle, Bundles, InputFault, read_one};
 use bp_outside::SteadySource;
 use bpsec_explain::explain;
 use cbor_profile::{Bytes, List, SpellError};
 use std::alloc::Global;
-use worked_tables::{Fields, Told, Trouble, answer, hex, lines, spell_error, text};
+use worked_tables::{Fields, Told, Trouble, answer, lines, spell_error, text};
 use worked_values::{bundle_of, bundle_text, read};
 
 pub fn told(alloc: Global, call: &str, row: &mut Fields) -> Told {
@@ -16,15 +15,26 @@ pub fn told(alloc: Global, call: &str, row: &mut Fields) -> Told {
         "prefixes" => answer(prefixes(alloc, row)),
         "parts" => answer(parts(alloc, row)),
         "make" => answer(made(alloc, row)),
-        "insert" => answer(inserted(alloc, row)),
-        "remove" => answer(removed(alloc, row)),
-        "replace" => answer(replaced(alloc, row)),
-        "without-check" => answer(without_check(alloc, row)),
         "in-turn" => answer(in_turn(alloc, row)),
         "one" => answer(one(alloc, row)),
         "explain" => answer(explained(alloc, row)),
         _ => Ok(None),
     }
+}
+
+/// The size that a bundle tells.
+pub fn size_of(bundle: &Bundle) -> u64 {
+    bundle.size()
+}
+
+/// How many blocks it has behind its primary block.
+pub fn count_of(bundle: &Bundle) -> usize {
+    bundle.blocks().len()
+}
+
+/// The index of its block with this number.
+fn place_of(bundle: &Bundle, number: u64) -> Option<usize> {
+    bundle.index_of(number)
 }
 
 /// What these bytes are, read in pieces of this many: the bundle written again is them, or the first fault.
@@ -36,8 +46,8 @@ fn spelled(alloc: Global, bytes: &[u8], size: usize) -> Result<String, Trouble> 
             if out.as_slice() != bytes {
                 return text(alloc, "written otherwise");
             }
-            let size = bundle.size();
-            let blocks = bundle.blocks().len();
+            let size = size_of(&bundle);
+            let blocks = count_of(&bundle);
             Ok(format!(in alloc; "bundle bytes={size} blocks={blocks}")?)
         }
         Err(error) => spell_error(alloc, error),
@@ -77,8 +87,8 @@ fn prefixes(alloc: Global, row: &mut Fields) -> Result<String, Trouble> {
 /// `parts BUNDLE NUMBER`: the size of a copy, the index of the block with this number, and the lifetime.
 fn parts(alloc: Global, row: &mut Fields) -> Result<String, Trouble> {
     let bundle = bundle_of(alloc, row)?.copy(alloc)?;
-    let size = bundle.size();
-    let index = bundle.index_of(row.number()?);
+    let size = size_of(&bundle);
+    let index = place_of(&bundle, row.number()?);
     let lifetime = bundle.primary().lifetime;
     Ok(format!(in alloc; "{size} {index:?} {lifetime}")?)
 }
@@ -94,84 +104,18 @@ fn made(alloc: Global, row: &mut Fields) -> Result<String, Trouble> {
         blocks.push(block_of(alloc, row)?)?;
     }
     match Bundle::of(primary, List::of(blocks)) {
-        Ok(bundle) => {
-            let (primary, blocks) = bundle.into_parts();
-            match Bundle::of(primary, blocks) {
-                Ok(bundle) => bundle_text(alloc, &bundle),
-                Err(_) => text(alloc, "its parts make no bundle"),
-            }
-        }
+        Ok(bundle) => made_again(alloc, bundle),
         Err(fault) => Ok(format!(in alloc; "{fault:?}")?),
     }
 }
 
-/// `insert BUNDLE INDEX BLOCK`: the bundle with the block at the index and its size, or why it isn't inserted.
-fn inserted(alloc: Global, row: &mut Fields) -> Result<String, Trouble> {
-    let mut bundle = bundle_of(alloc, row)?;
-    let index = row.number()? as usize;
-    let block = block_of(alloc, row)?;
-    if index >= bundle.blocks().len() {
-        return Err(Trouble::Row("the index of a block"));
+/// The bundle that the parts of a bundle make.
+fn made_again(alloc: Global, bundle: Bundle) -> Result<String, Trouble> {
+    let (primary, blocks) = bundle.into_parts();
+    match Bundle::of(primary, blocks) {
+        Ok(bundle) => bundle_text(alloc, &bundle),
+        Err(_) => text(alloc, "its parts make no bundle"),
     }
-    match bundle.insert(index, block) {
-        Ok(()) => {
-            let size = bundle.size();
-            let spelled = bundle_text(alloc, &bundle)?;
-            let spelled = spelled.as_str();
-            Ok(format!(in alloc; "{size} {spelled}")?)
-        }
-        Err(InsertFault::NoMemory) => Err(Trouble::NoMemory),
-        Err(InsertFault::Shape(fault)) => {
-            let blocks = bundle.blocks().len();
-            Ok(format!(in alloc; "{fault:?} blocks={blocks}")?)
-        }
-    }
-}
-
-/// `remove BUNDLE INDEX`: the number of the block that is removed, and the size and the bytes of what is left.
-fn removed(alloc: Global, row: &mut Fields) -> Result<String, Trouble> {
-    let mut bundle = bundle_of(alloc, row)?;
-    let index = row.number()? as usize;
-    let count = bundle.blocks().len();
-    if count < 2 || index > count - 2 {
-        return Err(Trouble::Row("the index of a block before the payload"));
-    }
-    let number = bundle.remove(index).number;
-    let size = bundle.size();
-    let spelled = bundle_text(alloc, &bundle)?;
-    let spelled = spelled.as_str();
-    Ok(format!(in alloc; "{number} {size} {spelled}")?)
-}
-
-/// `replace BUNDLE INDEX BODY`: the body that was there, and the size and the bytes of the bundle with the new one.
-fn replaced(alloc: Global, row: &mut Fields) -> Result<String, Trouble> {
-    let mut bundle = bundle_of(alloc, row)?;
-    let index = row.number()? as usize;
-    let body = Bytes::of(row.bytes(alloc)?);
-    if index >= bundle.blocks().len() {
-        return Err(Trouble::Row("the index of a block"));
-    }
-    let Ok(old) = bundle.replace_body(index, body) else {
-        return text(alloc, "too long");
-    };
-    let old = hex(alloc, old.as_slice())?;
-    let old = old.as_str();
-    let size = bundle.size();
-    let spelled = bundle_text(alloc, &bundle)?;
-    let spelled = spelled.as_str();
-    Ok(format!(in alloc; "{old} {size} {spelled}")?)
-}
-
-/// `without-check BUNDLE`: its size, and the size and the bytes once the check of its primary block is taken off.
-fn without_check(alloc: Global, row: &mut Fields) -> Result<String, Trouble> {
-    let mut bundle = bundle_of(alloc, row)?;
-    laws::checks_have_sizes();
-    let before = bundle.size();
-    bundle.set_crc(0, CheckKind::None);
-    let size = bundle.size();
-    let spelled = bundle_text(alloc, &bundle)?;
-    let spelled = spelled.as_str();
-    Ok(format!(in alloc; "{before} {size} {spelled}")?)
 }
 
 fn input_fault(alloc: Global, fault: InputFault) -> Result<String, Trouble> {
@@ -230,7 +174,7 @@ fn one(alloc: Global, row: &mut Fields) -> Result<String, Trouble> {
     let mut source = SteadySource::new(Bytes::of(bytes), 7);
     match read_one(alloc, &mut source) {
         Ok(bundle) => {
-            let size = bundle.size();
+            let size = size_of(&bundle);
             Ok(format!(in alloc; "bundle bytes={size}")?)
         }
         Err(fault) => input_fault(alloc, fault),

@@ -5,6 +5,7 @@
 mod blocks;
 mod bundles;
 mod checks;
+mod edits;
 mod fragments;
 mod heads;
 mod ids;
@@ -15,7 +16,10 @@ use std::process::ExitCode;
 use worked_tables::{Calls, Ended, Fields, Tables, Told, Trouble, names_of, run_calls, run_each};
 
 fn after_bundles(alloc: Global, call: &str, row: &mut Fields) -> Told {
-    fragments::told(alloc, call, row)
+    match edits::told(alloc, call, row) {
+        Ok(None) => fragments::told(alloc, call, row),
+        told => told,
+    }
 }
 
 fn after_blocks(alloc: Global, call: &str, row: &mut Fields) -> Told {

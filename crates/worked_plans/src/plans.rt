@@ -1,10 +1,12 @@
 //! Calls of `bp_build`, `bpsec_plan` and `bpsec_secure`.
 
 use bp_build::bundle_from_json;
+use bp_bundle::Bundle;
 use bp_text::TextError;
 use bpsec_context::laws::the_default_suite_is_rfc_9173;
 use bpsec_plan::{Cover, Item, Plan, Split};
-use bpsec_secure::{PlanFault, secure};
+use bpsec_policy::KeyRing;
+use bpsec_secure::{PlanFault, PlanReason, secure};
 use cbor_profile::Bytes;
 use std::alloc::Global;
 use std::fmt::Debug;
@@ -23,9 +25,14 @@ pub fn told(alloc: Global, call: &str, row: &mut Fields) -> Told {
     }
 }
 
+/// The bundle of a text.
+fn bundle_of_text(alloc: Global, text: &str) -> Result<Bundle, TextError> {
+    bundle_from_json(alloc, text.as_bytes())
+}
+
 /// `build TEXT`: the bundle of a text, or the fault of the text.
 fn built(alloc: Global, row: &mut Fields) -> Result<String, Trouble> {
-    match bundle_from_json(alloc, row.text()?.as_bytes()) {
+    match bundle_of_text(alloc, row.text()?) {
         Ok(bundle) => bundle_text(alloc, &bundle),
         Err(error) => text_error(alloc, error),
     }
@@ -183,6 +190,29 @@ fn plan_many(alloc: Global, row: &mut Fields) -> Result<String, Trouble> {
     }
 }
 
+/// The bundle with the security blocks of a plan.
+fn applied(
+    alloc: Global,
+    bundle: &Bundle,
+    plan: &Plan,
+    ring: &KeyRing,
+) -> Result<Bundle, PlanFault> {
+    the_default_suite_is_rfc_9173();
+    secure(alloc, bundle, plan, ring, &suite())
+}
+
+/// Why a plan isn't applied, and the index of its item, if it is about one.
+fn refused(alloc: Global, reason: &PlanReason, at: Option<u64>) -> Result<String, Trouble> {
+    let reason = shown(alloc, reason)?;
+    match at {
+        Some(at) => {
+            let at = shown(alloc, &at)?;
+            text_of(alloc, &["refused ", reason.as_str(), " at ", at.as_str()])
+        }
+        None => text_of(alloc, &["refused ", reason.as_str()]),
+    }
+}
+
 /// `secure BUNDLE ITEMS RING`: the bundle with the security blocks of a plan, or why the plan isn't applied.
 fn secured(alloc: Global, row: &mut Fields) -> Result<String, Trouble> {
     let bundle = bundle_of(alloc, row)?;
@@ -190,20 +220,9 @@ fn secured(alloc: Global, row: &mut Fields) -> Result<String, Trouble> {
         return Err(Trouble::Row("a plan"));
     };
     let ring = ring_of(alloc, row)?;
-    the_default_suite_is_rfc_9173();
-    match secure(alloc, &bundle, &plan, &ring, &suite()) {
+    match applied(alloc, &bundle, &plan, &ring) {
         Ok(bundle) => bundle_text(alloc, &bundle),
         Err(PlanFault::NoMemory) => Err(Trouble::NoMemory),
-        Err(PlanFault::Refused { reason, at }) => match at {
-            Some(at) => {
-                let reason = shown(alloc, &reason)?;
-                let at = shown(alloc, &at)?;
-                text_of(alloc, &["refused ", reason.as_str(), " at ", at.as_str()])
-            },
-            None => {
-                let reason = shown(alloc, &reason)?;
-                text_of(alloc, &["refused ", reason.as_str()])
-            },
-        },
+        Err(PlanFault::Refused { reason, at }) => refused(alloc, &reason, at),
     }
 }

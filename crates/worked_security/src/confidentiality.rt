@@ -1,21 +1,21 @@
 //! Confidentiality: calls of `bpsec_scope` and `bpsec_context`, and which service a context has.
 
-ghost use Rattle.std.specs.Prelude.{IsTrue};
+ghost use Rattle.std.specs.Prelude.{◌≤◌, ◌^◌, length, IsTrue};
 ghost use Rattle.bpsec_scope.specs.Target.{target_of, is_sealed};
 
 use bp_bundle::Bundle;
-use bpsec_context::Suite;
+use bpsec_context::{Judgement, Suite};
 use bpsec_scope::{Covered, Header, TargetOf, aad};
 use cbor_profile::{Bytes, Gather};
 use std::alloc::Global;
 use worked_tables::{Fields, Told, Trouble, answer, hex, text};
-use worked_values::{asked, bundle_of, handed, header, pairs, short_key, suite};
+use worked_values::{Asking, asked, bundle_of, handed, header, pairs, short_key, suite};
 
 pub fn told(alloc: Global, call: &str, row: &mut Fields) -> Told {
     match call {
         "aad" => answer(additional_data(alloc, row)),
-        "open" => answer(opened(alloc, row)),
-        "seal" => answer(sealed(alloc, row)),
+        "open" => answer(over_body(alloc, Call::Opens, row)),
+        "seal" => answer(over_body(alloc, Call::Seals, row)),
         "service" => answer(service(alloc, row)),
         "scope-of" => answer(scope_of(alloc, row)),
         _ => Ok(None),
@@ -47,22 +47,48 @@ fn additional_data(alloc: Global, row: &mut Fields) -> Result<String, Trouble> {
     hex(alloc, gather.finish()?.as_slice())
 }
 
-/// `open BUNDLE TARGET SECURITY CONTEXT KEY PARAMETERS RESULTS BODY`: how a confidentiality operation is judged, by a check
-/// and by unsealing, and the body that is left.
-fn opened(alloc: Global, row: &mut Fields) -> Result<String, Trouble> {
-    let bundle = bundle_of(alloc, row)?;
-    let target = header(row)?;
-    let security = header(row)?;
-    let asked = asked(alloc, row)?;
-    let mut body = Bytes::of(row.bytes(alloc)?);
-    if body.len() > 65_536 {
-        return Err(Trouble::Row("a short body"));
-    }
-    let covered = covered_sealed(&bundle, target, security);
-    let key = handed(&asked.key);
-    let (context, parameters, results) = (asked.context, &asked.parameters, &asked.results);
-    let checked = suite().check(context, key, parameters, results, &covered, body.as_slice());
-    let judged = suite().unseal(context, key, parameters, results, &covered, &mut body);
+/// How a check judges a body.
+fn checked(asked: &Asking, covered: &Covered, body: &Bytes) -> Judgement
+    requires sealed { IsTrue (is_sealed (target_of covered.now.target)) }
+    requires body { length body.now ≤ 2 ^ 32 }
+{
+    suite().check(
+        asked.context,
+        handed(&asked.key),
+        &asked.parameters,
+        &asked.results,
+        covered,
+        body.as_slice(),
+    )
+}
+
+/// How unsealing judges a body, which it opens where it is right.
+fn unsealed(asked: &Asking, covered: &Covered, body: &mut Bytes) -> Judgement
+    requires sealed { IsTrue (is_sealed (target_of covered.now.target)) }
+    requires body { length body.old ≤ 2 ^ 32 }
+{
+    suite().unseal(
+        asked.context,
+        handed(&asked.key),
+        &asked.parameters,
+        &asked.results,
+        covered,
+        body,
+    )
+}
+
+/// How both judge a body, if they agree, and the body that is left.
+fn judged(
+    alloc: Global,
+    asked: &Asking,
+    covered: &Covered,
+    body: &mut Bytes,
+) -> Result<String, Trouble>
+    requires sealed { IsTrue (is_sealed (target_of covered.now.target)) }
+    requires body { length body.old ≤ 2 ^ 32 }
+{
+    let checked = checked(asked, covered, body);
+    let judged = unsealed(asked, covered, body);
     if checked != judged {
         return text(alloc, "checked otherwise");
     }
@@ -71,25 +97,23 @@ fn opened(alloc: Global, row: &mut Fields) -> Result<String, Trouble> {
     Ok(format!(in alloc; "{judged:?} {left}")?)
 }
 
-/// `seal BUNDLE TARGET SECURITY CONTEXT KEY PARAMETERS - BODY`: the body sealed and its tag, or why it isn't sealed.
-fn sealed(alloc: Global, row: &mut Fields) -> Result<String, Trouble> {
-    let bundle = bundle_of(alloc, row)?;
-    let target = header(row)?;
-    let security = header(row)?;
-    let asked = asked(alloc, row)?;
-    let mut body = Bytes::of(row.bytes(alloc)?);
-    if body.len() > 65_536 {
-        return Err(Trouble::Row("a short body"));
-    }
-    let covered = covered_sealed(&bundle, target, security);
+/// The body sealed and its tag, or why it isn't sealed.
+fn sealed_text(
+    alloc: Global,
+    asked: &Asking,
+    covered: &Covered,
+    body: &mut Bytes,
+) -> Result<String, Trouble>
+    requires sealed { IsTrue (is_sealed (target_of covered.now.target)) }
+    requires body { length body.old ≤ 2 ^ 32 }
+{
     let mut tag = [0; 64];
-    let key = short_key(&asked);
     match suite().seal(
         asked.context,
-        key,
+        short_key(asked),
         &asked.parameters,
-        &covered,
-        &mut body,
+        covered,
+        body,
         &mut tag,
     ) {
         Ok(len) => {
@@ -101,6 +125,45 @@ fn sealed(alloc: Global, row: &mut Fields) -> Result<String, Trouble> {
         }
         Err(reason) => Ok(format!(in alloc; "{reason:?}")?),
     }
+}
+
+/// What is done with a body.
+#[derive(Clone, Copy)]
+enum Call {
+    Opens,
+    Seals,
+}
+
+/// What a call answers of a body and of what is covered.
+fn answered(
+    alloc: Global,
+    call: Call,
+    asked: &Asking,
+    covered: &Covered,
+    mut body: Bytes,
+) -> Result<String, Trouble>
+    requires sealed { IsTrue (is_sealed (target_of covered.now.target)) }
+{
+    if body.len() > 65_536 {
+        return Err(Trouble::Row("a short body"));
+    }
+    match call {
+        Call::Opens => judged(alloc, asked, covered, &mut body),
+        Call::Seals => sealed_text(alloc, asked, covered, &mut body),
+    }
+}
+
+/// `open BUNDLE TARGET SECURITY CONTEXT KEY PARAMETERS RESULTS BODY`: how a confidentiality operation is judged, by a check
+/// and by unsealing, and the body that is left. `seal BUNDLE TARGET SECURITY CONTEXT KEY PARAMETERS - BODY`: the body sealed
+/// and its tag, or why it isn't sealed.
+fn over_body(alloc: Global, call: Call, row: &mut Fields) -> Result<String, Trouble> {
+    let bundle = bundle_of(alloc, row)?;
+    let target = header(row)?;
+    let security = header(row)?;
+    let asked = asked(alloc, row)?;
+    let body = Bytes::of(row.bytes(alloc)?);
+    let covered = covered_sealed(&bundle, target, security);
+    answered(alloc, call, &asked, &covered, body)
 }
 
 /// `service CONTEXT`: its service, and whether its tag may stand in the body.

@@ -1,5 +1,5 @@
 use Rattle.bpsec_command.specs.Answer.{job}
-use Rattle.bpsec_command.proofs.Worlds.{world_ends}
+use Rattle.bpsec_command.proofs.ToldWorldAnswers.{world_ends}
 use Rattle.bpsec_command.proofs.laws.told_answers_are_the_worlds.Goals as goal
 
 pub returns : goal.returns

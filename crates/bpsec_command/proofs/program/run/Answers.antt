@@ -1,6 +1,6 @@
 use Rattle.std.proofs.Common.{subst, ◌∙◌}
-use Rattle.bpsec_command.specs.Statuses.{IsFault}
-use Rattle.bpsec_command.proofs.Completeness.{takes_due, untouched}
+use Rattle.bpsec_answer.specs.Statuses.{IsFault}
+use Rattle.bpsec_command.proofs.WhatIsDueIsTaken.{takes_due, untouched}
 use Rattle.bpsec_command.proofs.program.run.Goals as goal
 
 pub returns-in-Ok-clause-complete : goal.returns-in-Ok-clause-complete

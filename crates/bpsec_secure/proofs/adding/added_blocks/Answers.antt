@@ -1,5 +1,5 @@
 use Rattle.std.proofs.Common.{◌≡◌, ◌++◌, ◌∷◌, []}
-use Rattle.bpsec_secure.specs.View.{facts}
+use Rattle.bpsec_facts.specs.View.{facts}
 use Rattle.bpsec_secure.specs.Secured.{finished}
 use Rattle.bpsec_secure.proofs.AddedLemmas.{added_step}
 use Rattle.bpsec_secure.proofs.adding.added_blocks.Goals as goal

@@ -1,5 +1,5 @@
 use Rattle.std.proofs.Common.{◌≡◌, map, take}
-use Rattle.bpsec_secure.specs.View.{facts}
+use Rattle.bpsec_facts.specs.View.{facts}
 use Rattle.bpsec_secure.specs.Secured.{sealed_result}
 use Rattle.bpsec_secure.proofs.adding.sealed_results.Given as goal
 

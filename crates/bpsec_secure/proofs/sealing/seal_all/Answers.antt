@@ -1,6 +1,6 @@
 use Rattle.std.proofs.Common.{◌∙◌, ap, List, map}
 use Rattle.bp_blocks.specs.declared.block.Block.{Block}
-use Rattle.bpsec_secure.specs.View.{facts}
+use Rattle.bpsec_facts.specs.View.{facts}
 use Rattle.bpsec_secure.specs.Secured.{sealed}
 use Rattle.bpsec_secure.proofs.AddedLemmas.{kept_all, tags_are}
 use Rattle.bpsec_secure.proofs.sealing.seal_all.Goals as goal

@@ -1,6 +1,6 @@
 use Rattle.std.proofs.Common.{◌<◌, List, length, ap, arith}
 use Rattle.bp_blocks.specs.declared.block.Block.{Block}
-use Rattle.bpsec_secure.specs.View.{facts}
+use Rattle.bpsec_facts.specs.View.{facts}
 use Rattle.bpsec_secure.specs.Secured.{sealed}
 use Rattle.bpsec_secure.specs.Tags.{tag_of_block}
 use Rattle.bpsec_secure.proofs.InPlace.{tags_step, sealed_step}

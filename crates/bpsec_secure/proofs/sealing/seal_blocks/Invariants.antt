@@ -1,5 +1,5 @@
 use Rattle.std.proofs.Common.{◌≡◌, ◌++◌, map, take, drop}
-use Rattle.bpsec_secure.specs.View.{facts}
+use Rattle.bpsec_facts.specs.View.{facts}
 use Rattle.bpsec_secure.specs.Secured.{sealed}
 use Rattle.bpsec_secure.specs.Tags.{tag_of_block}
 use Rattle.bpsec_secure.proofs.sealing.seal_blocks.Given as goal

@@ -1,6 +1,6 @@
 use Rattle.bpsec_secure.specs.Usable.{IsUsable}
 use Rattle.bpsec_secure.specs.Secured.{seals}
-use Rattle.bpsec_secure.proofs.Found.{found}
+use Rattle.bpsec_facts.proofs.Found.{found}
 use Rattle.bpsec_secure.proofs.sealing.usable_item.Goals as goal
 
 pub returns-clause-usable : goal.returns-clause-usable

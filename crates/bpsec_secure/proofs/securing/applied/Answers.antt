@@ -1,8 +1,8 @@
 use Rattle.std.proofs.Common.{◌∙◌, sym, ap}
 use Rattle.std.specs.Prelude.{Some}
-use Rattle.bpsec_secure.specs.View.{facts}
+use Rattle.bpsec_facts.specs.View.{facts}
 use Rattle.bpsec_secure.specs.Secured.{secured}
-use Rattle.bpsec_secure.proofs.AnswerLemmas.{long_refused}
+use Rattle.bpsec_facts.proofs.AnswerLemmas.{long_refused}
 use Rattle.bpsec_secure.proofs.LongLemmas.{long_bundle}
 use Rattle.bpsec_secure.proofs.securing.applied.Goals as goal
 

@@ -1,8 +1,8 @@
 use Rattle.std.proofs.Common.{◌∙◌, sym}
 use Rattle.bp_bundle.specs.Shape.{Contents}
-use Rattle.bpsec_secure.specs.View.{facts}
+use Rattle.bpsec_facts.specs.View.{facts}
 use Rattle.bpsec_secure.proofs.Passed.{passed, all_usable}
-use Rattle.bpsec_secure.proofs.LongLemmas.{bundle_short}
+use Rattle.bpsec_facts.proofs.ShortLemmas.{bundle_short}
 use Rattle.bpsec_secure.proofs.ShapeLemmas.{has_shape}
 use Rattle.bpsec_secure.proofs.securing.decided.Goals as goal
 

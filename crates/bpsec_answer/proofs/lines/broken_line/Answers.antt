@@ -1,0 +1,15 @@
+use Rattle.std.proofs.Common.{◌≡◌, ℕ, List, [], ◌∷◌, ◌++◌, sym, ◌∙◌, append_assoc}
+use Rattle.std.specs.Prelude.{codes}
+use Rattle.std.specs.Fmt.{decimal}
+use Rattle.cbor_profile.specs.declared.fault.Fault.{Fault}
+use Rattle.bpsec_answer.specs.Lines.{broken_line}
+use Rattle.cbor_profile.specs.Reasons.{reason_name}
+use Rattle.bpsec_answer.proofs.lines.broken_line.Goals as goal
+
+written : (number : ℕ) (fault : Fault) (name : List ℕ) → name ≡ reason_name fault.reason
+    → codes "refused bundle bcb=" ++ (decimal number ++ (codes " place=" ++ (decimal fault.place ++ (codes " reason=" ++ (name ++ 10 ∷ []))))) ≡ broken_line number fault
+unfolding broken_line
+written number fault name e = rw e (sym (simp append_assoc))
+
+pub returns : goal.returns
+returns c = c.in_ok-format.ensures.ok ∙ written c.args.block c.args.fault c.name-reason.result.now c.name-reason.ensures

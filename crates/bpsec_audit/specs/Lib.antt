@@ -1,0 +1,6 @@
+pub mod Lines
+pub mod Reach
+pub mod Rules
+pub mod Keys
+pub mod Items
+pub mod Findings

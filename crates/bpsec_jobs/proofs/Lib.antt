@@ -1,0 +1,2 @@
+mod GatheringInTurn
+mod SessionIsPicked

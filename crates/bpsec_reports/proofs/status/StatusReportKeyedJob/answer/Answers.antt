@@ -1,0 +1,4 @@
+use Rattle.bpsec_reports.proofs.status.StatusReportKeyedJob.answer.Goals as goal
+
+pub returns-clause-is : goal.returns-clause-is
+returns-clause-is c = c.begin_refused.ensures.is c.args.bundle _ c.in-Err.ensures.fault

@@ -1,6 +1,0 @@
-use Rattle.std.proofs.Common.{◌≡◌, take}
-use Rattle.bpsec_secure.specs.Bibs.{left_of}
-use Rattle.bpsec_secure.proofs.bibs.left_of.Given as goal
-
-abbrev pub invariant-loop-target : goal.invariant-loop-target
-invariant-loop-target l = l.left ≡ left_of l.items l.number (take l.target-index l.targets)

@@ -1,9 +1,0 @@
-use Rattle.std.proofs.Common.{◌≡◌, None, take, map}
-use Rattle.std.specs.Prelude.{filter, fold}
-use Rattle.bpsec_secure.specs.View.{facts}
-use Rattle.bpsec_secure.specs.Refusal.{is_unreadable, lesser}
-use Rattle.bpsec_secure.proofs.refusal.unreadable.Given as goal
-
-abbrev pub invariant-loop-block : goal.invariant-loop-block
-invariant-loop-block l =
-    l.least ≡ fold lesser None (map (λ block. block.number) (filter (is_unreadable (facts l.case)) (take l.block-index l.case.blocks.now)))

@@ -1,9 +1,0 @@
-use Rattle.std.proofs.Common.{◌≡◌, [], take, drop}
-use Rattle.bpsec_secure.specs.View.{facts}
-use Rattle.bpsec_secure.specs.Refusal.{bad_split, first_at}
-use Rattle.bpsec_secure.proofs.table.first_bad_split.Given as goal
-
-abbrev pub invariant-loop-i : goal.invariant-loop-i
-invariant-loop-i l =
-    first_at (bad_split (facts l.case)) [] l.case.items.now
-    ≡ first_at (bad_split (facts l.case)) (take l.i l.case.items.now) (drop l.i l.case.items.now)
