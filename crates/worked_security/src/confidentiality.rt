@@ -4,12 +4,13 @@ ghost use Rattle.std.specs.Prelude.{◌≤◌, ◌^◌, length, IsTrue};
 ghost use Rattle.bpsec_scope.specs.Target.{target_of, is_sealed};
 
 use bp_bundle::Bundle;
+use bpsec_cmac::cmac_suite;
 use bpsec_context::{Judgement, Suite};
 use bpsec_scope::{Covered, Header, TargetOf, aad};
 use cbor_profile::{Bytes, Gather};
 use std::alloc::Global;
 use worked_tables::{Fields, Told, Trouble, answer, hex, text};
-use worked_values::{Asking, asked, bundle_of, handed, header, pairs, short_key, suite};
+use worked_values::{Asking, asked, bundle_of, handed, header, pairs, short_key};
 
 pub fn told(alloc: Global, call: &str, row: &mut Fields) -> Told {
     match call {
@@ -52,7 +53,7 @@ fn checked(asked: &Asking, covered: &Covered, body: &Bytes) -> Judgement
     requires sealed { IsTrue (is_sealed (target_of covered.now.target)) }
     requires body { length body.now ≤ 2 ^ 32 }
 {
-    suite().check(
+    cmac_suite().check(
         asked.context,
         handed(&asked.key),
         &asked.parameters,
@@ -67,7 +68,7 @@ fn unsealed(asked: &Asking, covered: &Covered, body: &mut Bytes) -> Judgement
     requires sealed { IsTrue (is_sealed (target_of covered.now.target)) }
     requires body { length body.old ≤ 2 ^ 32 }
 {
-    suite().unseal(
+    cmac_suite().unseal(
         asked.context,
         handed(&asked.key),
         &asked.parameters,
@@ -108,7 +109,7 @@ fn sealed_text(
     requires body { length body.old ≤ 2 ^ 32 }
 {
     let mut tag = [0; 64];
-    match suite().seal(
+    match cmac_suite().seal(
         asked.context,
         short_key(asked),
         &asked.parameters,
@@ -169,8 +170,8 @@ fn over_body(alloc: Global, call: Call, row: &mut Fields) -> Result<String, Trou
 /// `service CONTEXT`: its service, and whether its tag may stand in the body.
 fn service(alloc: Global, row: &mut Fields) -> Result<String, Trouble> {
     let context = row.signed()?;
-    let service = suite().service_of(context);
-    let joins = suite().joins(context);
+    let service = cmac_suite().service_of(context);
+    let joins = cmac_suite().joins(context);
     Ok(format!(in alloc; "{service:?} {joins}")?)
 }
 
@@ -178,6 +179,6 @@ fn service(alloc: Global, row: &mut Fields) -> Result<String, Trouble> {
 fn scope_of(alloc: Global, row: &mut Fields) -> Result<String, Trouble> {
     let context = row.signed()?;
     let parameters = pairs(alloc, row)?;
-    let scope = suite().scope_of(context, &parameters);
+    let scope = cmac_suite().scope_of(context, &parameters);
     Ok(format!(in alloc; "{scope}")?)
 }

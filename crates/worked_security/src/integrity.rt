@@ -3,12 +3,13 @@
 ghost use Rattle.std.specs.Prelude.{◌≤◌, ◌^◌, length, IsFalse};
 ghost use Rattle.bpsec_scope.specs.Target.{target_of, is_sealed, body_of};
 
+use bpsec_cmac::cmac_suite;
 use bpsec_context::Suite;
 use bpsec_scope::{Covered, Header, TargetOf, ippt};
 use cbor_profile::Gather;
 use std::alloc::Global;
 use worked_tables::{Fields, Told, Trouble, answer, hex};
-use worked_values::{asked, bundle_of, handed, header, short_key, suite};
+use worked_values::{asked, bundle_of, handed, header, short_key};
 
 pub fn told(alloc: Global, call: &str, row: &mut Fields) -> Told {
     match call {
@@ -66,7 +67,7 @@ fn judged(alloc: Global, row: &mut Fields, covered: &Covered) -> Result<String, 
     requires body { length (body_of (target_of covered.now.target)) ≤ 2 ^ 32 }
 {
     let asked = asked(alloc, row)?;
-    let judgement = suite().judge(
+    let judgement = cmac_suite().judge(
         asked.context,
         handed(&asked.key),
         &asked.parameters,
@@ -84,7 +85,7 @@ fn signed(alloc: Global, row: &mut Fields, covered: &Covered) -> Result<String, 
     let asked = asked(alloc, row)?;
     let mut tag = [0; 64];
     let key = short_key(&asked);
-    match suite().sign(asked.context, key, &asked.parameters, covered, &mut tag) {
+    match cmac_suite().sign(asked.context, key, &asked.parameters, covered, &mut tag) {
         Ok(len) => hex(alloc, &tag[..len]),
         Err(reason) => Ok(format!(in alloc; "{reason:?}")?),
     }
